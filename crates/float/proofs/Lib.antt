@@ -1,1 +1,5 @@
 pub mod Zero
+pub mod Powers
+pub mod Fields
+pub mod Units
+pub mod Bits

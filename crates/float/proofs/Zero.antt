@@ -1,14 +1,14 @@
--- What it is to be below 0 and to equal 0, by the cases of a float. Assumes nothing.
-use Prim.Native.Nat.{ℕ, zero, suc, _+_, _*_, _^_, _≤_, _<_}
-use native.Mathlib.Nat.{mul-pos, zero-lt-suc, zero-mul, lt-irrefl, le-refl}
+-- What it is to be below 0, above 0 and equal to 0, by the cases of a float. Assumes nothing.
+use Prim.Native.Nat.{ℕ, zero, suc, _+_, _*_, _<_}
+use native.Mathlib.Nat.{mul-pos, zero-lt-suc, zero-mul}
 use native.Mathlib.Omega.{arith}
-use mathlib.Core.Path.{_≡_, refl, sym, ap, _∙_, subst}
-use mathlib.Core.Bool.{Bool, true, false, not, Bool·beq, _||_, _&&_, true≢false}
+use mathlib.Core.Path.{_≡_, refl, ap, _∙_}
+use mathlib.Core.Bool.{Bool, true, false, not, Bool·beq, _||_}
 use borrow.Author.Tests.{lt-ltb, le-ltb, eq-eqb, ne-eqb}
-use lib.IntN.{ℤ, pos, negsuc}
-use lib.Dec.{T, ltb, eqb, eqb→eq}
-use lib.Ieee.{Float, nan, inf, fin, binary64, up, down, lt, eq, div, fits, ofBits}
-use lib.Ieee.Fits.{up-pos, down-pos}
+use lib.IntN.{ℤ, pos}
+use lib.Dec.{eqb}
+use lib.Ieee.{Float, nan, inf, fin, up, down, lt, eq, div, ofBits}
+use lib.Ieee.Fits.{up-pos}
 use Rattle.float.specs.Float.{#0, #1, _⊘_}
 
 -- ---- the numbers that the code writes out
@@ -33,6 +33,12 @@ negative (inf s) = s
 negative (fin s zero e) = false
 negative (fin s (suc m) e) = s
 
+abbrev pub positive : Float → Bool
+positive nan = false
+positive (inf s) = not s
+positive (fin s zero e) = false
+positive (fin s (suc m) e) = not s
+
 abbrev pub isZero : Float → Bool
 isZero nan = false
 isZero (inf s) = false
@@ -56,6 +62,18 @@ below (fin false (suc m) e) = le-ltb (suc m * up e * 1) (0 * 1 * down e) (let b 
 
 pub lt-zero : (x : Float) → lt x #0 ≡ negative x
 lt-zero x = ap (lt x) zero-is ∙ below x
+
+over : (x : Float) → lt (fin false 0 (pos 0)) x ≡ positive x
+unfolding lt
+over nan = refl
+over (inf s) = refl
+over (fin true zero e) = refl
+over (fin true (suc m) e) = refl
+over (fin false zero e) = le-ltb (0 * 1 * down e) (0 * up e * 1) (let a = zero-mul (up e) in omega arith)
+over (fin false (suc m) e) = lt-ltb (0 * 1 * down e) (suc m * up e * 1) (let a = above m e in let b = none (down e) in omega arith)
+
+pub zero-lt : (x : Float) → lt #0 x ≡ positive x
+zero-lt x = ap (λ z. lt z x) zero-is ∙ over x
 
 or-true : (b : Bool) → (b || true) ≡ true
 or-true true = refl

@@ -1,5 +1,5 @@
 -- `float::is_finite` meets its contract. Assumes nothing.
-use mathlib.Core.Path.{_≡_, refl, sym, ap, _∙_}
+use mathlib.Core.Path.{_≡_, refl, sym}
 use mathlib.Core.Bool.{true, false}
 use lib.Ieee.{Float, nan, inf, fin, lt, neg}
 use Rattle.float.specs.Float.{isFinite}
