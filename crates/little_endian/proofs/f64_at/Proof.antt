@@ -1,0 +1,18 @@
+-- `little_endian::f64_at` meets its contract. Assumes nothing.
+use borrow.Author.Needs.{needs}
+use mathlib.Core.Path.{_∙_, ap}
+use lib.Ieee.{binary64, ofBits}
+use Rattle.little_endian.proofs.f64_at.Statement.{statement}
+use Rattle.little_endian.proofs.f64_at.Tie as tie
+
+u64-at-requires : tie.Need-u64-at-requires
+u64-at-requires c κs = search needs
+
+from-bits-requires : tie.Need-from-bits-requires
+from-bits-requires c κs = search needs
+
+returns : tie.Need-returns
+returns c = c .from-bits .ensures ∙ ap (ofBits binary64) (c .before .u64-at .ensures)
+
+pub f64-at-spec : {M : Type 1} → statement M
+f64-at-spec = tie.close (tie.spec u64-at-requires from-bits-requires returns)

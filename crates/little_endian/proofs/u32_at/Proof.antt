@@ -1,0 +1,30 @@
+-- `little_endian::u32_at` meets its contract. Assumes nothing.
+use borrow.Author.Needs.{needs}
+use native.Mathlib.Omega.{arith}
+use Rattle.little_endian.proofs.Laws.{halves}
+use Rattle.little_endian.proofs.u32_at.Statement.{statement}
+use Rattle.little_endian.proofs.u32_at.Tie as tie
+
+u16-at-requires : tie.Need-u16-at-requires
+u16-at-requires c κs = search needs
+
+add-u16-at : tie.Need-add-u16-at
+add-u16-at c = search needs
+
+u16-at-requires-2 : tie.Need-u16-at-requires-2
+u16-at-requires-2 c κs = search needs
+
+mul-result : tie.Need-mul-result
+mul-result c = search needs
+
+add-result : tie.Need-add-result
+add-result c = search needs
+
+returns : tie.Need-returns
+returns c =
+    let s = c .before .before .before in
+    (halves _ (s .args .i) 2 (c .before .u16-at .result) (c .u16-at2 .result) (omega arith) (c .before .u16-at .ensures .0) (c .u16-at2 .ensures .0), omega arith)
+
+pub u32-at-spec : {M : Type 1} → statement M
+u32-at-spec =
+    tie.close (tie.spec u16-at-requires add-u16-at u16-at-requires-2 mul-result add-result returns)
