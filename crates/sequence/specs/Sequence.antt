@@ -1,8 +1,9 @@
 -- Lists as loops read and write them: tests, parts, tables, passes over indices, and sums from 0 in rising index. Definitions only.
-use Prim.Native.Nat.{ℕ, zero, suc}
+use Prim.Native.Nat.{ℕ, zero, suc, _+_, _≤_}
+use mathlib.Core.Path.{_≡_}
 use mathlib.Core.Bool.{Bool, true, _&&_, cond}
 use mathlib.Core.List.{List, [], _∷_, _++_, zipWith, foldl}
-use lib.ListN.{take, drop, getD}
+use lib.ListN.{length, take, drop, getD}
 use lib.Ieee.{Float, nan, binary64, add, mul}
 use Rattle.float.specs.Float.{#0, _⊕_}
 
@@ -46,3 +47,9 @@ sumBut (suc n) skip f = cond (skip n) (sumBut n skip f) (sumBut n skip f ⊕ f n
 -- the sum of the products
 unfoldable pub dot : List Float → List Float → Float
 dot xs ys = foldl (add binary64) #0 (zipWith (mul binary64) xs ys)
+
+-- of `was`, nothing but the n elements from x on has changed in `is`
+pub record Only {A : Type 0} (x n : ℕ) (was is : List A) : Type 0 where
+  pub long : length is ≡ length was
+  pub below : (i k : ℕ) → i + k ≤ x → part is i k ≡ part was i k
+  pub above : (i k : ℕ) → x + n ≤ i → part is i k ≡ part was i k

@@ -2,6 +2,7 @@
 // specs/Sequence.antt, with their laws in proofs/.
 
 ghost use mathlib.Core.Path.{_≡_};
+ghost use lib.ListN.{length, replicate};
 ghost use Rattle.float.specs.Float.{isFinite};
 ghost use Rattle.sequence.specs.Sequence.{every};
 
@@ -15,4 +16,13 @@ pub fn all_finite(s: &[f64]) -> bool
         }
     }
     true
+}
+
+// Every number of s becomes x.
+pub fn fill(s: &mut [f64], x: f64)
+    ensures { λ _. ⌜ now (s .exit) ≡ replicate (length (now (s .entry))) x ⌝ }
+{
+    for i in 0..s.len() {
+        s[i] = x;
+    }
 }

@@ -1,0 +1,39 @@
+// What the programs that replay the oracle's answers share: records from standard input, and lines of counts.
+
+// Fills buf from standard input; false where the input ends before.
+pub fn next(buf: &mut [u8]) -> bool {
+    io::read_full(libc::STDIN_FILENO, buf) == buf.len()
+}
+
+// One byte of standard input; 0 where it has ended.
+pub fn byte() -> u8 {
+    let mut b = [0u8; 1];
+    next(&mut b);
+    b[0]
+}
+
+// One more, as a count of records never wraps.
+pub fn more(n: u64) -> u64 {
+    std::num::wrapping_add_u64(n, 1)
+}
+
+pub fn write(text: &[u8]) {
+    io::write_all(libc::STDOUT_FILENO, text);
+}
+
+// A label, a space and a number.
+pub fn line(label: &[u8], n: u64) {
+    write(label);
+    write(b" ");
+    io::print_decimal(libc::STDOUT_FILENO, n);
+    write(b"\n");
+}
+
+// A question's number and how often it refused.
+pub fn refused(question: u64, n: u64) {
+    write(b"refused ");
+    io::print_decimal(libc::STDOUT_FILENO, question);
+    write(b" ");
+    io::print_decimal(libc::STDOUT_FILENO, n);
+    write(b"\n");
+}
