@@ -36,6 +36,7 @@ pub(super) fn build_design_matrix(
 }
 
 pub(super) fn cos_dec_per_obs(observations: &[&Observation]) -> Vec<f64> {
+    // document 01: read from the lent sheet
     observations.iter().map(|o| o.sheet.cos_dec(1)).collect()
 }
 

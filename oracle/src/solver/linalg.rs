@@ -11,7 +11,7 @@ pub struct SolveOutcome {
     pub rank: usize,
     pub sigma_max: f64,
     pub sigma_min: f64,
-    // document 01: how many sweeps the factorisation made, and whether the last had no turn
+    // beside the Rust's: the sweeps that the factorisation made, and whether the last had no turn
     pub sweeps: usize,
     pub settled: bool,
 }

@@ -32,6 +32,7 @@ fn sum_sq_sky(residuals: &DVector, observations: &[&Observation]) -> f64 {
     for i in 0..observations.len() {
         let dh = residuals[2 * i];
         let dd = residuals[2 * i + 1];
+        // document 01: read from the lent sheet
         let cos_dec = observations[i].sheet.cos_dec(1);
         let dx = dh * cos_dec;
         sum_sq += dx * dx + dd * dd;

@@ -4,6 +4,7 @@ use super::FitInputs;
 use crate::error::Result;
 
 pub(super) fn validate_fit_inputs(inputs: &FitInputs<'_>) -> Result<()> {
+    // document 01: the errors are numbers 12, 11 and 13
     let free_count = inputs.fixed.iter().filter(|&&f| !f).count();
     if free_count == 0 && !inputs.terms.is_empty() {
         return Err(12);

@@ -1,7 +1,7 @@
 //! `replay_jacobians`: the pair of each name on each block's sheet.
 
 use super::random::Random;
-use super::{put_doubles, Vectors};
+use super::{angles, put_doubles, Vectors};
 use oracle::questions::{jacobian, Point};
 use oracle::sheet::SHEET;
 
@@ -90,26 +90,12 @@ fn slots() -> Vec<Vec<u8>> {
     slots
 }
 
-/// The sheet of an hour angle and a declination, by Rust's own sine, cosine and tangent.
-fn angles(h: f64, dec: f64) -> Vec<f64> {
-    let mut sheet = Vec::new();
-    for angle in [h, dec] {
-        for k in 1..=9 {
-            let arg = angle * k as f64;
-            sheet.extend([arg.sin(), arg.cos()]);
-        }
-    }
-    sheet.push(dec.tan());
-    sheet
-}
-
 fn real(random: &mut Random, pier: u8) -> Block {
     let h = random.unit() * std::f64::consts::PI;
     let dec = random.unit() * 1.56;
-    let lat = random.unit() * 1.5;
     Block {
-        sheet: angles(h, dec),
-        lat: [lat.sin(), lat.cos()],
+        sheet: angles::sheet(h, dec).to_vec(),
+        lat: angles::sin_cos(random.unit() * 1.5).into(),
         pier,
     }
 }

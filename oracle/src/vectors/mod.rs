@@ -1,5 +1,6 @@
 //! The stored vectors: for each replay program its standard input and what it prints.
 
+pub mod angles;
 pub mod jacobians;
 pub mod names;
 pub mod random;

@@ -1,7 +1,7 @@
 //! `replay_solves`: outcomes of the damped solve.
 
 use super::random::Random;
-use super::{put_doubles, Vectors};
+use super::{angles, put_doubles, Vectors};
 use oracle::matrix::{DMatrix, DVector};
 use oracle::observation::PierSide;
 use oracle::sheet::{Latitude, Sheet};
@@ -83,14 +83,16 @@ fn whole(random: &mut Random) -> System {
     filled(rows, m, random, |r| r.below(7) as f64 - 3.0)
 }
 
-/// The damping of a trial loop: powers of ten around 1e-3.
+/// The damping of a trial loop.
 fn damped(random: &mut Random) -> System {
     let mut system = if random.flip() {
         unit(random)
     } else {
         whole(random)
     };
-    system.lambda = 10f64.powi(random.within(0, 18) as i32 - 9);
+    system.lambda = random.pick(&[
+        1e-12, 1e-9, 1e-6, 1e-4, 1e-3, 1e-2, 0.1, 1.0, 10.0, 1e3, 1e6,
+    ]);
     system.fit_tol = random.pick(&[0.0, 1e-12, 1e-3]);
     system
 }
@@ -261,17 +263,9 @@ fn design(random: &mut Random) -> System {
     let stars = random.within(m.div_ceil(2), 8);
     let mut system = filled(2 * stars, m, random, |r| r.unit() * 200.0);
     let first = random.below(names.len() - m + 1);
-    let (sin, cos) = (random.unit() * 1.2).sin_cos();
+    let (sin, cos) = angles::sin_cos(random.unit() * 1.2);
     for i in 0..stars {
-        let (h, dec) = (random.unit() * 1.2, random.unit() * 1.2);
-        let mut sheet = [0.0; 37];
-        for k in 0..9 {
-            let (kh, kd) = (h * (k + 1) as f64, dec * (k + 1) as f64);
-            (sheet[2 * k], sheet[2 * k + 1]) = (kh.sin(), kh.cos());
-            (sheet[18 + 2 * k], sheet[19 + 2 * k]) = (kd.sin(), kd.cos());
-        }
-        sheet[36] = dec.tan();
-        let sheet = Sheet(sheet);
+        let sheet = Sheet(angles::sheet(random.unit() * 1.2, random.unit() * 1.2));
         let pier = random.pick(&[PierSide::East, PierSide::West]).sign();
         for j in 0..m {
             let term = create_term(names[first + j]).expect("a name");
