@@ -1,0 +1,17 @@
+//! The Rust of docs/src with exactly document 01's substitutions, each marked `// document 01: ..`.
+//! File by file beside docs/src: `terms`, `observation`, `solver`, `model`. The others stand for
+//! what the source takes from its libraries, or hold document 01's calls and file program.
+
+#![allow(clippy::needless_range_loop)]
+
+pub mod error;
+pub mod libm;
+pub mod matrix;
+pub mod model;
+pub mod observation;
+pub mod pmf;
+pub mod questions;
+pub mod sheet;
+pub mod solver;
+pub mod svd;
+pub mod terms;

@@ -1,0 +1,25 @@
+//! The stored vectors: for each replay program its standard input and what it prints.
+
+pub mod angles;
+pub mod jacobians;
+pub mod names;
+pub mod random;
+pub mod solves;
+
+/// What a replay program reads, and what it prints.
+pub struct Vectors {
+    pub name: &'static str,
+    pub stdin: Vec<u8>,
+    pub stdout: String,
+}
+
+pub fn all() -> Vec<Vectors> {
+    vec![names::vectors(), jacobians::vectors(), solves::vectors()]
+}
+
+/// Appends doubles; every NaN as 7ff8000000000000.
+fn put_doubles(out: &mut Vec<u8>, numbers: &[f64]) {
+    for &x in numbers {
+        out.extend(oracle::pmf::bits(x).to_le_bytes());
+    }
+}
