@@ -3,3 +3,4 @@ pub mod Steps
 pub mod Reading
 pub mod Arrays
 pub mod Product
+pub mod Whole

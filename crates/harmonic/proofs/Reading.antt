@@ -4,13 +4,13 @@ use native.Mathlib.Omega.{arith}
 use native.Mathlib.Nat.{add-sub-of-le}
 use native.Mathlib.Numerals.{add-one}
 use mathlib.Core.Path.{_≡_, refl, _∙_, ap, ap₂, sym, subst}
-use mathlib.Core.Bool.{Bool, true, false}
+use mathlib.Core.Bool.{Bool, true}
 use mathlib.Core.List.{List, [], _∷_, _++_, append-nil}
 use mathlib.Core.Option.{Option, none, some}
-use lib.ListN.{length, take, drop, set, replicate, length-set, length-drop, length-append, take-append-drop, drop-of-length-le}
-use lib.Seq.{take-suc-set, drop-set-lt, drop-drop, length-take-le, take-at, drop-cons}
+use lib.ListN.{length, take, drop, set, replicate, length-set, length-drop, take-append-drop, drop-of-length-le}
+use lib.Seq.{take-suc-set, drop-set-lt, drop-drop, length-take-le}
 use Rattle.harmonic.specs.Harmonic.{components, componentsRead, read, join, blankComponent}
-use Rattle.harmonic.specs.Inside.{step, stepAt}
+use Rattle.harmonic.specs.Inside.{stepAt}
 use Rattle.harmonic.specs.declared.Made.{Made}
 use Rattle.harmonic.specs.declared.Step.{Step}
 use Rattle.harmonic.specs.declared.HarmonicComponent.{HarmonicComponent}

@@ -1,41 +1,30 @@
+-- `harmonic::make_component` meets its contract. Assumes nothing.
 use borrow.Author.Tests.{ne-eqb}
 use borrow.Author.Needs.{needs}
 use Rattle.harmonic.proofs.make_component.Statement.{statement}
 use Rattle.harmonic.proofs.make_component.Tie as tie
-use Rattle.harmonic.proofs.make_component.Reads as reads
-use Rattle.harmonic.proofs.make_component.Lts as lts
-use Rattle.harmonic.proofs.parse_coord.Reads as parse-coord-reads
-use Rattle.harmonic.proofs.parse_func.Reads as parse-func-reads
 
--- src/harmonic.rt:118:32
 parse-func-requires : tie.Need-parse-func-requires
 parse-func-requires c κs = search needs
 
--- src/harmonic.rt:118:24
 enum-known-func : tie.Need-enum-known-func
 enum-known-func c = search needs
 
--- src/harmonic.rt:119:9
 enum-told : tie.Need-enum-told
 enum-told c = search needs
 
--- src/harmonic.rt:119:9
 returns : tie.Need-returns
 returns c = rw (← c .before .before .parse-func .ensures, c .enum-told .given .1)
 
--- src/harmonic.rt:121:35
 parse-coord-requires : tie.Need-parse-coord-requires
 parse-coord-requires c κs = search needs
 
--- src/harmonic.rt:121:26
 enum-known-coord : tie.Need-enum-known-coord
 enum-known-coord c = search needs
 
--- src/harmonic.rt:122:9
 enum-told-2 : tie.Need-enum-told-2
 enum-told-2 c = search needs
 
--- src/harmonic.rt:122:9
 returns-2 : tie.Need-returns-2
 returns-2 c =
     rw (
@@ -45,7 +34,6 @@ returns-2 c =
       c .enum-told2 .given .1,
     )
 
--- src/harmonic.rt:125:9
 returns-3 : tie.Need-returns-3
 returns-3 c =
     rw (
@@ -56,7 +44,6 @@ returns-3 c =
       c .if1 .taken,
     )
 
--- src/harmonic.rt:115:1
 returns-4 : tie.Need-returns-4
 returns-4 c =
     rw (

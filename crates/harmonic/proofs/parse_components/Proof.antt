@@ -1,6 +1,7 @@
+-- `harmonic::parse_components` meets its contract. Assumes nothing.
 use Prim.Native.Nat.{_-_}
 use native.Mathlib.Omega.{arith}
-use mathlib.Core.Path.{_≡_, _∙_, ap, sym, subst}
+use mathlib.Core.Path.{_∙_, ap, sym, subst}
 use mathlib.Core.Bool.{false}
 use borrow.Author.Needs.{needs}
 use lib.ListN.{length}
@@ -9,10 +10,6 @@ use Rattle.harmonic.specs.declared.Components.{Components}
 use Rattle.harmonic.proofs.Reading.{Read, start, broken, further, next, done}
 use Rattle.harmonic.proofs.parse_components.Statement.{statement}
 use Rattle.harmonic.proofs.parse_components.Tie as tie
-use Rattle.harmonic.proofs.parse_components.Reads as reads
-use Rattle.harmonic.proofs.parse_components.Lts as lts
-use Rattle.harmonic.proofs.component_at.Reads as component-at-reads
-use Rattle.harmonic.proofs.no_components.Reads as no-components-reads
 
 abbrev Inv-loop : tie.InvT-loop
 Inv-loop chars none list₀ count₀ i₀ list count i = Read chars list count i
@@ -20,29 +17,23 @@ Inv-loop chars none list₀ count₀ i₀ list count i = Read chars list count i
 abbrev μ-loop : tie.MeasureT-loop
 μ-loop chars none list₀ count₀ i₀ list count i = length chars - i
 
--- src/lib.rt:200:9
 no-components-requires : tie.Need-no-components-requires Inv-loop μ-loop
 no-components-requires c κs = search needs
 
--- src/lib.rt:204:5
 loop-holds : tie.Need-loop-holds Inv-loop μ-loop
 loop-holds c =
     let s = c .before .before .before .args .chars .now in
     subst (λ (cs : Components). Read s (cs .list) 0 0) (sym (c .before .no-components .ensures)) (start s)
 
--- src/lib.rt:205:40
 component-at-requires : tie.Need-component-at-requires Inv-loop μ-loop
 component-at-requires c κs = search needs
 
--- src/lib.rt:205:29
 enum-known-c : tie.Need-enum-known-c Inv-loop μ-loop
 enum-known-c c = search needs
 
--- src/lib.rt:206:13
 enum-told : tie.Need-enum-told Inv-loop μ-loop
 enum-told c = search needs
 
--- src/lib.rt:206:13
 returns : tie.Need-returns Inv-loop μ-loop
 returns c =
     let s = c .before .before .before .before .before .before .before .before .args .chars .now in
@@ -50,19 +41,15 @@ returns c =
     let ill = broken s (c .before .before .before .before .before .before .before .before .pre) (l .list) (l .count) (l .i) (l .inv) (c .before .before .before .loop-test .taken) (sym (c .before .before .component-at .ensures) ∙ c .enum-told .given .1) in
     ap (λ (cs : Components). record { ok = false; components = cs }) (c .before .before .before .before .before .before .no-components .ensures) ∙ sym (ap read ill)
 
--- src/lib.rt:211:9
 mul-list : tie.Need-mul-list Inv-loop μ-loop
 mul-list c = search needs
 
--- src/lib.rt:211:9
 array-set-from-list : tie.Need-array-set-from-list Inv-loop μ-loop
 array-set-from-list c = search needs
 
--- src/lib.rt:212:9
 add-count : tie.Need-add-count Inv-loop μ-loop
 add-count c = search needs
 
--- src/lib.rt:204:5
 loop-less : tie.Need-loop-less Inv-loop μ-loop
 loop-less c =
     let s = c .before .before .before .before .before .before .before .before .before .args .chars .now in
@@ -72,7 +59,6 @@ loop-less c =
     (sym (c .before .before .before .component-at .ensures) ∙ g .1) in
     omega (arith, f .0, f .1)
 
--- src/lib.rt:204:5
 loop-again : tie.Need-loop-again Inv-loop μ-loop
 loop-again c =
     let s = c .before .before .before .before .before .before .before .before .before .args .chars .now in
@@ -81,7 +67,6 @@ loop-again c =
     next s (c .before .before .before .before .before .before .before .before .before .pre) (l .list) (l .count) (l .i) (l .inv) (c .before .before .before .before .loop-test .taken) (g .0 .0) (g .0 .1 .0)
     (sym (c .before .before .before .component-at .ensures) ∙ g .1)
 
--- src/lib.rt:196:1
 returns-2 : tie.Need-returns-2 Inv-loop μ-loop
 returns-2 c =
     let s = c .before .before .before .before .before .args .chars .now in
