@@ -116,6 +116,5 @@ parsed (ResultRead.Result r) (some l) = record { ok = true; result = r; componen
 
 -- H, a result type, and components, of which there is one at least: a name has four bytes or more
 unfoldable pub parseHarmonic : List ℕ → HarmonicRead
-unfolding components
 parseHarmonic n =
     cond (ltb (length n) 4 || not (eqb (getD n 0 0) (code "H"))) malformedName (parsed (resultOf (getD n 1 0)) (components (drop 2 n)))

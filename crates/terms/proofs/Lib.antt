@@ -1,0 +1,4 @@
+pub mod Both
+pub mod Keys
+pub mod Digits
+pub mod Slots
