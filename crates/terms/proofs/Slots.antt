@@ -7,12 +7,12 @@ use mathlib.Core.Bool.{Bool, true, false, cond, _&&_, and-false}
 use mathlib.Core.List.{List, [], _∷_, _++_, map, map-append}
 use mathlib.Core.Option.{none}
 use lib.ListN.{length, getD, take, drop, set, replicate, length-map, length-drop, drop-of-length-le, take-append-drop}
-use lib.Seq.{drop-cons, take-at, take-suc, take-suc-set}
+use lib.Seq.{take-all, length-take-le, drop-cons, take-at, take-suc, take-suc-set}
 use lib.Dec.{eqb, ltb, leb}
 use borrow.Author.Tests.{leb-true, ltb-true, lt-ltb, eq-eqb, ne-eqb, eqb-true, eqb-false}
 use Rattle.sequence.specs.Sequence.{every}
 use Rattle.terms.specs.Names.{padded, find, fixedNames, nameOf, capital, wellFormed, readTerm, byKnown, refused}
-use Rattle.terms.specs.Inside.{byte}
+use Rattle.terms.specs.Inside.{byte, Clean}
 use Rattle.terms.proofs.Both.{left-of, right-of}
 
 -- ---- the loop that looks for the first zero
@@ -48,7 +48,7 @@ not-zero : (b : ℕ) → (b ≡ 0 → ⊥) → 0 < b
 not-zero zero h = absurd (h refl)
 not-zero (suc b) h = omega arith
 
-pub name-take : (s : List ℕ) → take (length (nameOf s)) s ≡ nameOf s
+name-take : (s : List ℕ) → take (length (nameOf s)) s ≡ nameOf s
 unfolding nameOf
 name-take [] = refl
 name-take (b ∷ s) = by (eqb b 0) (name-take s)
@@ -58,7 +58,7 @@ name-take (b ∷ s) = by (eqb b 0) (name-take s)
     by true ih = refl
     by false ih = ap (λ u. b ∷ u) ih
 
-pub name-short : (s : List ℕ) → length (nameOf s) ≤ length s
+name-short : (s : List ℕ) → length (nameOf s) ≤ length s
 unfolding nameOf
 name-short [] = omega arith
 name-short (b ∷ s) = by (eqb b 0) (name-short s)
@@ -78,7 +78,7 @@ capital-byte b h k = by (leb 97 b && leb b 122) refl
     by false e = fits b h (omega arith)
 
 -- a name's capitals are bytes and none is zero
-pub name-bytes : (s : List ℕ) → every (λ b. ltb b 128) (nameOf s) ≡ true → every byte (map capital (nameOf s)) ≡ true
+name-bytes : (s : List ℕ) → every (λ b. ltb b 128) (nameOf s) ≡ true → every byte (map capital (nameOf s)) ≡ true
 unfolding nameOf
 name-bytes [] e = refl
 name-bytes (b ∷ s) e = by (eqb b 0) refl (λ h. name-bytes s h) e
@@ -94,14 +94,14 @@ name-bytes (b ∷ s) e = by (eqb b 0) refl (λ h. name-bytes s h) e
         rw (capital-byte b lo hi, ih (right-of (ltb b 128) (every (λ b. ltb b 128) (nameOf s)) e))
 
 -- zeros are a repeat of zero, and their capitals too
-pub zeros : (u : List ℕ) → every (λ b. eqb b 0) u ≡ true → map capital u ≡ replicate (length u) 0
+zeros : (u : List ℕ) → every (λ b. eqb b 0) u ≡ true → map capital u ≡ replicate (length u) 0
 zeros [] e = refl
 zeros (b ∷ u) e =
     let z = eqb-true b 0 (left-of (eqb b 0) (every (λ b. eqb b 0) u) e) in
     ap₂ (λ (x : ℕ) (l : List ℕ). capital x ∷ l) z (zeros u (right-of (eqb b 0) (every (λ b. eqb b 0) u) e))
 
 -- a slot of sixteen bytes, zeros behind its name, in capitals
-pub slot-padded : (s : List ℕ) → length s ≡ 16 → every (λ b. eqb b 0) (drop (length (nameOf s)) s) ≡ true
+slot-padded : (s : List ℕ) → length s ≡ 16 → every (λ b. eqb b 0) (drop (length (nameOf s)) s) ≡ true
     → map capital s ≡ padded (map capital (nameOf s))
 slot-padded s h e =
     let n = length (nameOf s) in
@@ -110,7 +110,7 @@ slot-padded s h e =
     ap (map capital) split ∙ map-append capital (nameOf s) (drop n s)
     ∙ ap (λ u. map capital (nameOf s) ++ u) (zeros (drop n s) e ∙ ap (λ k. replicate k 0) rest)
 
-pub slot-front : (s : List ℕ) → length s ≡ 16 → every (λ b. eqb b 0) (drop (length (nameOf s)) s) ≡ true
+slot-front : (s : List ℕ) → length s ≡ 16 → every (λ b. eqb b 0) (drop (length (nameOf s)) s) ≡ true
     → take (length (nameOf s)) (map capital s) ≡ map capital (nameOf s)
 slot-front s h e =
     ap (take (length (nameOf s))) (slot-padded s h e) ∙ take-at (map capital (nameOf s)) _ (length (nameOf s)) (length-map (nameOf s) capital)
@@ -118,32 +118,75 @@ slot-front s h e =
 -- ---- the questions in order
 
 module _ (s : List ℕ) where
-  pub ill-empty : length (nameOf s) ≡ 0 → wellFormed s ≡ false
-  unfolding wellFormed
-  ill-empty e = rw e
-
-  pub ill-ascii : every (λ b. ltb b 128) (nameOf s) ≡ false → wellFormed s ≡ false
-  unfolding wellFormed
-  ill-ascii e = rw (e, and-false (ltb 0 (length (nameOf s))))
-
-  pub ill-zeros : every (λ b. eqb b 0) (drop (length (nameOf s)) s) ≡ false → wellFormed s ≡ false
-  unfolding wellFormed
-  ill-zeros e = rw e (and-false (ltb 0 (length (nameOf s)) && every (λ b. ltb b 128) (nameOf s)))
-
-  pub well : 0 < length (nameOf s) → every (λ b. ltb b 128) (nameOf s) ≡ true
-      → every (λ b. eqb b 0) (drop (length (nameOf s)) s) ≡ true → wellFormed s ≡ true
-  unfolding wellFormed
-  well h e f = rw (lt-ltb 0 (length (nameOf s)) h, e, f)
-
-  pub read-2 : (length s ≡ 16 → ⊥) → readTerm s ≡ refused 2
+  pub no-slot : (length s ≡ 16 → ⊥) → refused 2 ≡ readTerm s
   unfolding readTerm
-  read-2 h = rw (ne-eqb (length s) 16 h)
+  no-slot h = rw (ne-eqb (length s) 16 h)
 
-  pub read-7 : length s ≡ 16 → wellFormed s ≡ false → readTerm s ≡ refused 7
+  ill : length s ≡ 16 → wellFormed s ≡ false → refused 7 ≡ readTerm s
   unfolding readTerm
-  read-7 h e = rw (eq-eqb (length s) 16 h, e)
+  ill h e = rw (eq-eqb (length s) 16 h, e)
 
-  pub read-on : length s ≡ 16 → wellFormed s ≡ true
-      → readTerm s ≡ byKnown (map capital (nameOf s)) (find fixedNames (map capital (nameOf s)))
+  well : length s ≡ 16 → wellFormed s ≡ true → byKnown (map capital (nameOf s)) (find fixedNames (map capital (nameOf s))) ≡ readTerm s
   unfolding readTerm
-  read-on h e = rw (eq-eqb (length s) 16 h, e)
+  well h e = rw (eq-eqb (length s) 16 h, e)
+
+-- the code has found that the name ends at n
+module _ (s : List ℕ) (n : ℕ) (is : n ≡ length (nameOf s)) where
+  pub end-within : n ≤ length s
+  end-within = omega (arith, name-short s)
+
+  front : take n s ≡ nameOf s
+  front = ap (λ k. take k s) is ∙ name-take s
+
+  behind : take (length s - n) (drop n s) ≡ drop (length (nameOf s)) s
+  behind = take-all (length s - n) (drop n s) (simp length-drop (omega arith)) ∙ ap (λ k. drop k s) is
+
+  module _ (sixteen : length s ≡ 16) where
+    pub no-byte : n ≡ 0 → refused 7 ≡ readTerm s
+    unfolding wellFormed
+    no-byte e = ill s sixteen (rw (sym is ∙ e))
+
+    pub not-ascii : every (λ b. ltb b 128) (take n s) ≡ false → refused 7 ≡ readTerm s
+    unfolding wellFormed
+    not-ascii e = ill s sixteen (rw (ap (every (λ b. ltb b 128)) (sym front) ∙ e, and-false (ltb 0 (length (nameOf s)))))
+
+    pub not-zeros : every (λ b. eqb b 0) (take (length s - n) (drop n s)) ≡ false → refused 7 ≡ readTerm s
+    unfolding wellFormed
+    not-zeros e =
+        ill s sixteen
+        (rw (ap (every (λ b. eqb b 0)) (sym behind) ∙ e) (and-false (ltb 0 (length (nameOf s)) && every (λ b. ltb b 128) (nameOf s))))
+
+    module _ (full : List ℕ) (full-is : full ≡ map capital s) where
+      pub full-length : length full ≡ 16
+      full-length = ap length full-is ∙ length-map s capital ∙ sixteen
+
+      module _ (some-byte : n ≡ 0 → ⊥)
+          (asciis : every (λ b. ltb b 128) (take n s) ≡ true)
+          (zeros : every (λ b. eqb b 0) (take (length s - n) (drop n s)) ≡ true) where
+        zeros-behind : every (λ b. eqb b 0) (drop (length (nameOf s)) s) ≡ true
+        zeros-behind = ap (every (λ b. eqb b 0)) (sym behind) ∙ zeros
+
+        asciis-front : every (λ b. ltb b 128) (nameOf s) ≡ true
+        asciis-front = ap (every (λ b. ltb b 128)) (sym front) ∙ asciis
+
+        name-is : take n full ≡ map capital (nameOf s)
+        name-is = ap₂ take is full-is ∙ slot-front s sixteen zeros-behind
+
+        above-none : 0 < n
+        above-none = not-zero n some-byte
+
+        pub clean : Clean (take n full) full
+        clean =
+            let long : length (take n full) ≡ n = length-take-le n full (omega (arith, end-within, full-length)) in
+            record {
+              some-bytes = omega (arith, above-none);
+              at-most = omega (arith, end-within);
+              bytes = ap (every byte) name-is ∙ name-bytes s asciis-front;
+              full-is = full-is ∙ slot-padded s sixteen zeros-behind ∙ ap padded (sym name-is);
+            }
+
+        pub created : byKnown (take n full) (find fixedNames (take n full)) ≡ readTerm s
+        unfolding wellFormed
+        created =
+            ap (λ k. byKnown k (find fixedNames k)) name-is
+            ∙ well s sixteen (rw (lt-ltb 0 (length (nameOf s)) (omega (arith, above-none)), asciis-front, zeros-behind))

@@ -1,44 +1,31 @@
+-- `terms::jacobian_equatorial` meets its contract. Assumes nothing.
 use borrow.Author.Needs.{needs}
 use Rattle.terms.proofs.jacobian_equatorial.Statement.{statement}
 use Rattle.terms.proofs.jacobian_equatorial.Tie as tie
-use Rattle.terms.proofs.jacobian_equatorial.Reads as reads
-use Rattle.terms.proofs.jacobian_equatorial.Lts as lts
-use Rattle.equatorial.proofs.EquatorialTerm.jacobian_equatorial.Reads as EquatorialTerm-jacobian-equatorial-reads
-use Rattle.harmonic.proofs.ResultType.jacobian_equatorial.Reads as ResultType-jacobian-equatorial-reads
-use Rattle.harmonic.proofs.evaluate_equatorial.Reads as evaluate-equatorial-reads
-use Rattle.observation.proofs.Point.from_sheet.Reads as from-sheet-reads
 
--- src/lib.rt:70:9
 from-sheet-requires : tie.Need-from-sheet-requires
 from-sheet-requires c κs = search needs
 
--- src/lib.rt:72:30
 enum-known-kind : tie.Need-enum-known-kind
 enum-known-kind c = search needs
 
--- src/lib.rt:72:36
 jacobian-equatorial-requires : tie.Need-jacobian-equatorial-requires
 jacobian-equatorial-requires c κs = search needs
 
--- src/lib.rt:73:28
 enum-known-kind-2 : tie.Need-enum-known-kind-2
 enum-known-kind-2 c = search needs
 
--- src/lib.rt:73:66
 evaluate-equatorial-requires : tie.Need-evaluate-equatorial-requires
 evaluate-equatorial-requires c κs = search needs
 
--- src/lib.rt:73:39
 jacobian-equatorial-requires-2 : tie.Need-jacobian-equatorial-requires-2
 jacobian-equatorial-requires-2 c κs = search needs
 
--- src/lib.rt:65:1
 returns : tie.Need-returns
-returns c = ?
+returns c = rw (c .before .before .kind .given .1, ← c .before .before .before .before .from-sheet .ensures) (c .jacobian-equatorial .ensures)
 
--- src/lib.rt:65:1
 returns-2 : tie.Need-returns-2
-returns-2 c = ?
+returns-2 c = rw (c .before .before .before .kind2 .given .1, ← c .before .before .before .before .before .from-sheet .ensures, ← c .before .evaluate-equatorial .ensures) (c .jacobian-equatorial2 .ensures)
 
 pub jacobian-equatorial-spec : {M : Type 1} → statement M
 jacobian-equatorial-spec =

@@ -1,3 +1,4 @@
+-- `terms::names::numbered_term` meets its contract. Assumes nothing.
 use Rattle.equatorial.specs.declared.EquatorialTerm.{EquatorialTerm}
 -- `terms::names::numbered_term` meets its contract. Assumes nothing.
 use mathlib.Core.Path.{_∙_}
