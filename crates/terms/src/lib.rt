@@ -8,9 +8,9 @@ pub mod answer;
 pub mod names;
 
 use crate::answer::Jacobian;
+use crate::names::ascii_only;
 use crate::names::capitals;
 use crate::names::create_term;
-use crate::names::ascii_only;
 use crate::names::name_end;
 use crate::names::refuse;
 use crate::names::zeros_only;
@@ -70,7 +70,10 @@ pub fn jacobian_equatorial(term: Term, sheet: &[f64], sin_lat: f64, cos_lat: f64
     let p = Point::from_sheet(sheet, sin_lat, cos_lat, pier);
     match kind {
         TermKind::Equatorial(t) => t.jacobian_equatorial(p),
-        TermKind::Harmonic(result) => result.jacobian_equatorial(harmonic::evaluate_equatorial(components, sheet), p),
+        TermKind::Harmonic(result) => result.jacobian_equatorial(
+            harmonic::evaluate_equatorial(components, sheet),
+            p,
+        ),
     }
 }
 
