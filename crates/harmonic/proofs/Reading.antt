@@ -9,7 +9,7 @@ use mathlib.Core.List.{List, [], _∷_, _++_, append-nil}
 use mathlib.Core.Option.{Option, none, some}
 use lib.ListN.{length, take, drop, set, replicate, length-set, length-drop, take-append-drop, drop-of-length-le}
 use lib.Seq.{take-suc-set, drop-set-lt, drop-drop, length-take-le}
-use Rattle.harmonic.specs.Harmonic.{components, componentsRead, read, join, blankComponent}
+use Rattle.harmonic.specs.Harmonic.{components, componentsRead, readOf, join, blankComponent}
 use Rattle.harmonic.specs.Inside.{stepAt}
 use Rattle.harmonic.specs.declared.Made.{Made}
 use Rattle.harmonic.specs.declared.Step.{Step}
@@ -80,4 +80,4 @@ module _ (s : List ℕ) (few : length s ≤ 14) (list : List HarmonicComponent) 
       let len : length l ≡ count = length-take-le count list (omega (arith, r .seven, r .twice, r .within)) in
       let whole : list ≡ l ++ replicate (7 - length l) blankComponent =
       sym (take-append-drop count list) ∙ ap (λ t. l ++ t) (r .rest ∙ ap (λ n. replicate (7 - n) blankComponent) (sym len)) in
-      ap₂ (componentsOf true) whole (sym len) ∙ sym (ap read (last h))
+      ap₂ (componentsOf true) whole (sym len) ∙ sym (ap readOf (last h))

@@ -43,12 +43,12 @@ abbrev pub evaluate : List Float → Components → Float
 evaluate sheet cs = product sheet (take (cs .count) (cs .list))
 
 -- of a harmonic whose value is val
-abbrev pub jacobianOf : ResultType → Float → Point → Pair
-jacobianOf ResultType.H val p = pairOf val #0
-jacobianOf ResultType.D val p = pairOf #0 val
-jacobianOf ResultType.X val p = pairOf (val ⊘ p .«cos_dec») #0
-jacobianOf ResultType.P val p = pairOf (neg (p .pier) ⊗ p .«tan_dec» ⊗ val) #0
-jacobianOf ResultType.A val p = pairOf #0 #0
-jacobianOf ResultType.E val p = pairOf #0 #0
-jacobianOf ResultType.Z val p = pairOf #0 #0
-jacobianOf ResultType.S val p = pairOf #0 #0
+abbrev pub harmonicJacobian : ResultType → Float → Point → Pair
+harmonicJacobian ResultType.H val p = pairOf val #0
+harmonicJacobian ResultType.D val p = pairOf #0 val
+harmonicJacobian ResultType.X val p = pairOf (val ⊘ p .«cos_dec») #0
+harmonicJacobian ResultType.P val p = pairOf (neg (p .pier) ⊗ p .«tan_dec» ⊗ val) #0
+harmonicJacobian ResultType.A val p = pairOf #0 #0
+harmonicJacobian ResultType.E val p = pairOf #0 #0
+harmonicJacobian ResultType.Z val p = pairOf #0 #0
+harmonicJacobian ResultType.S val p = pairOf #0 #0

@@ -11,8 +11,8 @@ use Rattle.observation.specs.Observation.{signOf, sideOf}
 use Rattle.observation.specs.Sheet.{pointOf}
 use Rattle.observation.specs.declared.Point.{Point}
 use Rattle.observation.specs.declared.Pair.{Pair}
-use Rattle.equatorial.specs.Equatorial as equatorial
-use Rattle.harmonic.specs.Value as harmonic
+use Rattle.equatorial.specs.Equatorial.{equatorialJacobian}
+use Rattle.harmonic.specs.Value.{evaluate, harmonicJacobian}
 use Rattle.harmonic.specs.declared.Components.{Components}
 use Rattle.terms.specs.Names.{readTerm}
 use Rattle.terms.specs.Questions.{ask, firstNo}
@@ -23,8 +23,8 @@ use Rattle.terms.specs.declared.answer.Jacobian.{Jacobian}
 use Rattle.terms.specs.declared.answer.Jacobian.the-variants.{Given, Refused}
 
 abbrev pub kindJacobian : TermKind → Components → List Float → Point → Pair
-kindJacobian (Equatorial t) cs sheet p = equatorial.jacobianOf t p
-kindJacobian (Harmonic r) cs sheet p = harmonic.jacobianOf r (harmonic.evaluate sheet cs) p
+kindJacobian (Equatorial t) cs sheet p = equatorialJacobian t p
+kindJacobian (Harmonic r) cs sheet p = harmonicJacobian r (evaluate sheet cs) p
 
 abbrev pub termJacobian : Term → List Float → Float → Float → Float → Pair
 termJacobian t sheet sinLat cosLat pier = kindJacobian (t .kind) (t .components) sheet (pointOf sheet sinLat cosLat pier)

@@ -5,7 +5,7 @@ use mathlib.Core.Path.{_∙_, ap, sym, subst}
 use mathlib.Core.Bool.{false}
 use borrow.Author.Needs.{needs}
 use lib.ListN.{length}
-use Rattle.harmonic.specs.Harmonic.{read}
+use Rattle.harmonic.specs.Harmonic.{readOf}
 use Rattle.harmonic.specs.declared.Components.{Components}
 use Rattle.harmonic.proofs.Reading.{Read, start, broken, further, next, done}
 use Rattle.harmonic.proofs.parse_components.Statement.{statement}
@@ -39,7 +39,7 @@ returns c =
     let s = c .before .before .before .before .before .before .before .before .args .chars .now in
     let l = c .before .before .before .before .loop in
     let ill = broken s (c .before .before .before .before .before .before .before .before .pre) (l .list) (l .count) (l .i) (l .inv) (c .before .before .before .loop-test .taken) (sym (c .before .before .component-at .ensures) ∙ c .enum-told .given .1) in
-    ap (λ (cs : Components). record { ok = false; components = cs }) (c .before .before .before .before .before .before .no-components .ensures) ∙ sym (ap read ill)
+    ap (λ (cs : Components). record { ok = false; components = cs }) (c .before .before .before .before .before .before .no-components .ensures) ∙ sym (ap readOf ill)
 
 mul-list : tie.Need-mul-list Inv-loop μ-loop
 mul-list c = search needs
