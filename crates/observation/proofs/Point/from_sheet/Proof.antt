@@ -21,7 +21,17 @@ number-at-requires-5 c κs = search needs
 
 returns : tie.Need-returns
 unfolding pointOf
-returns c = cc
+returns c =
+    λ i. record {
+      «sin_h» = c .before .before .before .before .number-at .ensures i;
+      «cos_h» = c .before .before .before .number-at2 .ensures i;
+      «sin_dec» = c .before .before .number-at3 .ensures i;
+      «cos_dec» = c .before .number-at4 .ensures i;
+      «tan_dec» = c .number-at5 .ensures i;
+      «sin_lat» = c .before .before .before .before .before .before .args .sin-lat;
+      «cos_lat» = c .before .before .before .before .before .before .args .cos-lat;
+      pier = c .before .before .before .before .before .before .args .pier;
+    }
 
 pub from-sheet-spec : {M : Type 1} → statement M
 from-sheet-spec =
