@@ -7,7 +7,8 @@ use mathlib.Core.List.{List, [], _∷_, _++_, map}
 use lib.ListN.{replicate}
 use lib.Ieee.{Float, binary64, ofBits, neg, add, mul, div, lt}
 use Rattle.float.specs.Float.{#0, #1, #2, abs, isFinite}
-use Rattle.observation.specs.Sheet.{pointOf, pairOf}
+use Rattle.observation.specs.Observation.{pairOf}
+use Rattle.observation.specs.Sheet.{pointOf}
 use Rattle.observation.specs.declared.Pair.{Pair}
 use Rattle.equatorial.specs.declared.EquatorialTerm.the-variants.{IH, TXN, HCES}
 use Rattle.harmonic.specs.Table.{ascii}

@@ -4,7 +4,7 @@ use mathlib.Core.Bool.{Bool, cond}
 use lib.Ieee.{Float, binary64, ofBits, neg, lt}
 use Rattle.float.specs.Float.{_⊕_, _⊖_, _⊗_, _⊘_, #0, #1, abs}
 use Rattle.sqrt.specs.Sqrt.{sqrt}
-use Rattle.observation.specs.Sheet.{pairOf}
+use Rattle.observation.specs.Observation.{pairOf}
 use Rattle.observation.specs.declared.Point.{Point}
 use Rattle.observation.specs.declared.Pair.{Pair}
 use Rattle.equatorial.specs.declared.EquatorialTerm.{EquatorialTerm}

@@ -2,7 +2,7 @@
 
 ghost use mathlib.Core.Path.{_≡_};
 ghost use Prim.Native.Nat.{_-_};
-ghost use Rattle.observation.specs.Sheet.{pairOf};
+ghost use Rattle.observation.specs.Observation.{pairOf};
 ghost use Rattle.equatorial.specs.Equatorial.{equatorialJacobian, sinAlt, flexureH, flexureD, tfOf, txOf, txnOf, dafOf, power, atLeastZero};
 use observation::Pair;
 use observation::Point;

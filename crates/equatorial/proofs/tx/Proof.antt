@@ -2,7 +2,7 @@
 use mathlib.Core.Path.{ap₂}
 use lib.Ieee.{Float}
 use Rattle.float.specs.Float.{_⊘_}
-use Rattle.observation.specs.Sheet.{pairOf}
+use Rattle.observation.specs.Observation.{pairOf}
 use Rattle.observation.specs.declared.Pair.{Pair}
 use Rattle.equatorial.proofs.Zenith.{small-is}
 use borrow.Author.Needs.{needs}

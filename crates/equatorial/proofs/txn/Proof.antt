@@ -1,6 +1,6 @@
 -- `equatorial::txn` meets its contract. Assumes nothing.
 use Rattle.float.specs.Float.{_⊗_, _⊘_}
-use Rattle.observation.specs.Sheet.{pairOf}
+use Rattle.observation.specs.Observation.{pairOf}
 use Rattle.equatorial.proofs.Zenith.{small-is, scale-is}
 use borrow.Author.Needs.{needs}
 use Rattle.equatorial.proofs.txn.Statement.{statement}
