@@ -8,25 +8,38 @@ use Rattle.terms.proofs.jacobian.Statement.{statement}
 use Rattle.terms.proofs.jacobian.Tie as tie
 
 returns : tie.Need-returns
-returns c = no-name (c .before .before .before .args .name .now) (c .before .before .before .args .sheet .now) (c .before .before .before .args .sin-lat) (c .before .before .before .args .cos-lat) (c .before .before .before .args .pier) (c .if1 .taken)
+returns c =
+    let start = c .before .before .before in
+    no-name (start .args .name .now) (start .args .sheet .now) (start .args .sin-lat) (start .args .cos-lat) (start .args .pier) (c .if1 .taken)
 
 returns-2 : tie.Need-returns-2
-returns-2 c = no-sheet (c .before .before .before .before .args .name .now) (c .before .before .before .before .args .sheet .now) (c .before .before .before .before .args .sin-lat) (c .before .before .before .before .args .cos-lat) (c .before .before .before .before .args .pier) (c .before .if1 .left) (c .if2 .taken)
+returns-2 c =
+    let start = c .before .before .before .before in
+    no-sheet (start .args .name .now) (start .args .sheet .now) (start .args .sin-lat) (start .args .cos-lat) (start .args .pier) (c .before .if1 .left) (c .if2 .taken)
 
 all-finite-requires : tie.Need-all-finite-requires
 all-finite-requires c κs = search needs
 
 returns-3 : tie.Need-returns-3
-returns-3 c = sheet-not-finite (c .before .before .before .before .before .before .args .name .now) (c .before .before .before .before .before .before .args .sheet .now) (c .before .before .before .before .before .before .args .sin-lat) (c .before .before .before .before .before .before .args .cos-lat) (c .before .before .before .before .before .before .args .pier) (c .before .before .before .if1 .left) (c .before .before .if2 .left) (sym (c .before .all-finite .ensures) ∙ not-true _ (c .if3 .taken))
+returns-3 c =
+    let at-if2 = c .before .before in
+    let at-if1 = at-if2 .before in
+    let start = at-if1 .before .before .before in
+    sheet-not-finite (start .args .name .now) (start .args .sheet .now) (start .args .sin-lat) (start .args .cos-lat) (start .args .pier) (at-if1 .if1 .left) (at-if2 .if2 .left) (sym (c .before .all-finite .ensures) ∙ not-true _ (c .if3 .taken))
 
 is-finite-requires : tie.Need-is-finite-requires
 is-finite-requires c κs = search needs
 
 returns-4 : tie.Need-returns-4
 returns-4 c =
+    let at-if3 = c .before .before in
+    let at-all-finite = at-if3 .before in
+    let at-if2 = at-all-finite .before in
+    let at-if1 = at-if2 .before in
+    let start = at-if1 .before .before .before in
     sin-not-finite
-    (c .before .before .before .before .before .before .before .before .args .name .now) (c .before .before .before .before .before .before .before .before .args .sheet .now) (c .before .before .before .before .before .before .before .before .args .sin-lat) (c .before .before .before .before .before .before .before .before .args .cos-lat) (c .before .before .before .before .before .before .before .before .args .pier)
-    (c .before .before .before .before .before .if1 .left) (c .before .before .before .before .if2 .left) (sym (c .before .before .before .all-finite .ensures) ∙ not-false _ (c .before .before .if3 .left))
+    (start .args .name .now) (start .args .sheet .now) (start .args .sin-lat) (start .args .cos-lat) (start .args .pier)
+    (at-if1 .if1 .left) (at-if2 .if2 .left) (sym (at-all-finite .all-finite .ensures) ∙ not-false _ (at-if3 .if3 .left))
     (sym (c .before .is-finite .ensures) ∙ not-true _ (c .if4 .taken))
 
 is-finite-requires-2 : tie.Need-is-finite-requires-2
@@ -34,29 +47,55 @@ is-finite-requires-2 c κs = search needs
 
 returns-5 : tie.Need-returns-5
 returns-5 c =
+    let at-if4 = c .before .before in
+    let at-is-finite = at-if4 .before in
+    let at-if3 = at-is-finite .before in
+    let at-all-finite = at-if3 .before in
+    let at-if2 = at-all-finite .before in
+    let at-if1 = at-if2 .before in
+    let start = at-if1 .before .before .before in
     cos-not-finite
-    (c .before .before .before .before .before .before .before .before .before .before .args .name .now) (c .before .before .before .before .before .before .before .before .before .before .args .sheet .now) (c .before .before .before .before .before .before .before .before .before .before .args .sin-lat) (c .before .before .before .before .before .before .before .before .before .before .args .cos-lat) (c .before .before .before .before .before .before .before .before .before .before .args .pier)
-    (c .before .before .before .before .before .before .before .if1 .left) (c .before .before .before .before .before .before .if2 .left) (sym (c .before .before .before .before .before .all-finite .ensures) ∙ not-false _ (c .before .before .before .before .if3 .left))
-    (sym (c .before .before .before .is-finite .ensures) ∙ not-false _ (c .before .before .if4 .left))
+    (start .args .name .now) (start .args .sheet .now) (start .args .sin-lat) (start .args .cos-lat) (start .args .pier)
+    (at-if1 .if1 .left) (at-if2 .if2 .left) (sym (at-all-finite .all-finite .ensures) ∙ not-false _ (at-if3 .if3 .left))
+    (sym (at-is-finite .is-finite .ensures) ∙ not-false _ (at-if4 .if4 .left))
     (sym (c .before .is-finite2 .ensures) ∙ not-true _ (c .if5 .taken))
 
 returns-6 : tie.Need-returns-6
 returns-6 c =
+    let at-is-finite2 = c .before .before in
+    let at-if4 = at-is-finite2 .before in
+    let at-is-finite = at-if4 .before in
+    let at-if3 = at-is-finite .before in
+    let at-all-finite = at-if3 .before in
+    let at-if2 = at-all-finite .before in
+    let at-if1 = at-if2 .before in
+    let start = at-if1 .before .before .before in
     no-side
-    (c .before .before .before .before .before .before .before .before .before .before .before .args .name .now) (c .before .before .before .before .before .before .before .before .before .before .before .args .sheet .now) (c .before .before .before .before .before .before .before .before .before .before .before .args .sin-lat) (c .before .before .before .before .before .before .before .before .before .before .before .args .cos-lat) (c .before .before .before .before .before .before .before .before .before .before .before .args .pier)
-    (c .before .before .before .before .before .before .before .before .if1 .left) (c .before .before .before .before .before .before .before .if2 .left) (sym (c .before .before .before .before .before .before .all-finite .ensures) ∙ not-false _ (c .before .before .before .before .before .if3 .left))
-    (sym (c .before .before .before .before .is-finite .ensures) ∙ not-false _ (c .before .before .before .if4 .left)) (sym (c .before .before .is-finite2 .ensures) ∙ not-false _ (c .before .if5 .left)) (c .if6 .taken)
+    (start .args .name .now) (start .args .sheet .now) (start .args .sin-lat) (start .args .cos-lat) (start .args .pier)
+    (at-if1 .if1 .left) (at-if2 .if2 .left) (sym (at-all-finite .all-finite .ensures) ∙ not-false _ (at-if3 .if3 .left))
+    (sym (at-is-finite .is-finite .ensures) ∙ not-false _ (at-if4 .if4 .left)) (sym (at-is-finite2 .is-finite2 .ensures) ∙ not-false _ (c .before .if5 .left)) (c .if6 .taken)
 
 read-term-requires : tie.Need-read-term-requires
 read-term-requires c κs = search needs
 
 returns-7 : tie.Need-returns-7
 returns-7 c =
+    let at-read-term = c .before .before in
+    let at-if6 = at-read-term .before in
+    let at-if5 = at-if6 .before in
+    let at-is-finite2 = at-if5 .before in
+    let at-if4 = at-is-finite2 .before in
+    let at-is-finite = at-if4 .before in
+    let at-if3 = at-is-finite .before in
+    let at-all-finite = at-if3 .before in
+    let at-if2 = at-all-finite .before in
+    let at-if1 = at-if2 .before in
+    let start = at-if1 .before .before .before in
     not-read
-    (c .before .before .before .before .before .before .before .before .before .before .before .before .before .before .args .name .now) (c .before .before .before .before .before .before .before .before .before .before .before .before .before .before .args .sheet .now) (c .before .before .before .before .before .before .before .before .before .before .before .before .before .before .args .sin-lat) (c .before .before .before .before .before .before .before .before .before .before .before .before .before .before .args .cos-lat) (c .before .before .before .before .before .before .before .before .before .before .before .before .before .before .args .pier)
-    (c .before .before .before .before .before .before .before .before .before .before .before .if1 .left) (c .before .before .before .before .before .before .before .before .before .before .if2 .left) (sym (c .before .before .before .before .before .before .before .before .before .all-finite .ensures) ∙ not-false _ (c .before .before .before .before .before .before .before .before .if3 .left))
-    (sym (c .before .before .before .before .before .before .before .is-finite .ensures) ∙ not-false _ (c .before .before .before .before .before .before .if4 .left)) (sym (c .before .before .before .before .before .is-finite2 .ensures) ∙ not-false _ (c .before .before .before .before .if5 .left))
-    (c .before .before .before .if6 .left) (c .before .before .read-term .result) (c .before .before .read-term .ensures) (c .if7 .taken)
+    (start .args .name .now) (start .args .sheet .now) (start .args .sin-lat) (start .args .cos-lat) (start .args .pier)
+    (at-if1 .if1 .left) (at-if2 .if2 .left) (sym (at-all-finite .all-finite .ensures) ∙ not-false _ (at-if3 .if3 .left))
+    (sym (at-is-finite .is-finite .ensures) ∙ not-false _ (at-if4 .if4 .left)) (sym (at-is-finite2 .is-finite2 .ensures) ∙ not-false _ (at-if5 .if5 .left))
+    (at-if6 .if6 .left) (at-read-term .read-term .result) (at-read-term .read-term .ensures) (c .if7 .taken)
 
 from-code-requires : tie.Need-from-code-requires
 from-code-requires c κs = search needs
@@ -69,12 +108,25 @@ jacobian-equatorial-requires c κs = search needs
 
 returns-8 : tie.Need-returns-8
 returns-8 c =
+    let at-from-code = c .before .before in
+    let at-if7 = at-from-code .before .before in
+    let at-read-term = at-if7 .before .before in
+    let at-if6 = at-read-term .before in
+    let at-if5 = at-if6 .before in
+    let at-is-finite2 = at-if5 .before in
+    let at-if4 = at-is-finite2 .before in
+    let at-is-finite = at-if4 .before in
+    let at-if3 = at-is-finite .before in
+    let at-all-finite = at-if3 .before in
+    let at-if2 = at-all-finite .before in
+    let at-if1 = at-if2 .before in
+    let start = at-if1 .before .before .before in
     given
-    (c .before .before .before .before .before .before .before .before .before .before .before .before .before .before .before .before .before .before .args .name .now) (c .before .before .before .before .before .before .before .before .before .before .before .before .before .before .before .before .before .before .args .sheet .now) (c .before .before .before .before .before .before .before .before .before .before .before .before .before .before .before .before .before .before .args .sin-lat) (c .before .before .before .before .before .before .before .before .before .before .before .before .before .before .before .before .before .before .args .cos-lat) (c .before .before .before .before .before .before .before .before .before .before .before .before .before .before .before .before .before .before .args .pier)
-    (c .before .before .before .before .before .before .before .before .before .before .before .before .before .before .before .if1 .left) (c .before .before .before .before .before .before .before .before .before .before .before .before .before .before .if2 .left) (sym (c .before .before .before .before .before .before .before .before .before .before .before .before .before .all-finite .ensures) ∙ not-false _ (c .before .before .before .before .before .before .before .before .before .before .before .before .if3 .left))
-    (sym (c .before .before .before .before .before .before .before .before .before .before .before .is-finite .ensures) ∙ not-false _ (c .before .before .before .before .before .before .before .before .before .before .if4 .left)) (sym (c .before .before .before .before .before .before .before .before .before .is-finite2 .ensures) ∙ not-false _ (c .before .before .before .before .before .before .before .before .if5 .left))
-    (c .before .before .before .before .before .before .before .if6 .left) (c .before .before .before .before .before .before .read-term .result) (c .before .before .before .before .before .before .read-term .ensures) (c .before .before .before .before .if7 .left)
-    (c .before .sign .result) (c .before .sign .ensures ∙ ap signOf (c .before .before .from-code .ensures)) _ (c .jacobian-equatorial .ensures)
+    (start .args .name .now) (start .args .sheet .now) (start .args .sin-lat) (start .args .cos-lat) (start .args .pier)
+    (at-if1 .if1 .left) (at-if2 .if2 .left) (sym (at-all-finite .all-finite .ensures) ∙ not-false _ (at-if3 .if3 .left))
+    (sym (at-is-finite .is-finite .ensures) ∙ not-false _ (at-if4 .if4 .left)) (sym (at-is-finite2 .is-finite2 .ensures) ∙ not-false _ (at-if5 .if5 .left))
+    (at-if6 .if6 .left) (at-read-term .read-term .result) (at-read-term .read-term .ensures) (at-if7 .if7 .left)
+    (c .before .sign .result) (c .before .sign .ensures ∙ ap signOf (at-from-code .from-code .ensures)) _ (c .jacobian-equatorial .ensures)
 
 pub jacobian-spec : {M : Type 1} → statement M
 jacobian-spec =

@@ -21,10 +21,17 @@ refuse-requires-2 : tie.Need-refuse-requires-2
 refuse-requires-2 c κs = search needs
 
 returns-2 : tie.Need-returns-2
-returns-2 c = c .refuse2 .ensures ∙ no-byte (c .before .before .before .before .before .args .slot .now) (c .before .before .name-end .result) (c .before .before .name-end .ensures) (c .before .before .before .if1 .left) (c .before .if2 .taken)
+returns-2 c =
+    let at-name-end = c .before .before in
+    let at-if1 = at-name-end .before in
+    let start = at-if1 .before .before in
+    c .refuse2 .ensures ∙ no-byte (start .args .slot .now) (at-name-end .name-end .result) (at-name-end .name-end .ensures) (at-if1 .if1 .left) (c .before .if2 .taken)
 
 slice-aggregate-ascii-only : tie.Need-slice-aggregate-ascii-only
-slice-aggregate-ascii-only c = sym (length-take-le _ _ (end-within (c .before .before .before .before .before .args .slot .now) (c .before .before .name-end .result) (c .before .before .name-end .ensures)))
+slice-aggregate-ascii-only c =
+    let at-name-end = c .before .before in
+    let start = at-name-end .before .before .before in
+    sym (length-take-le _ _ (end-within (start .args .slot .now) (at-name-end .name-end .result) (at-name-end .name-end .ensures)))
 
 ascii-only-requires : tie.Need-ascii-only-requires
 ascii-only-requires c κs = search needs
@@ -34,13 +41,23 @@ refuse-requires-3 c κs = search needs
 
 returns-3 : tie.Need-returns-3
 returns-3 c =
-    c .refuse3 .ensures ∙ not-ascii (c .before .before .before .before .before .before .before .before .args .slot .now) (c .before .before .before .before .before .name-end .result) (c .before .before .before .before .before .name-end .ensures) (c .before .before .before .before .before .before .if1 .left) (sym (c .before .before .ascii-only .ensures) ∙ not-true _ (c .before .if3 .taken))
+    let at-ascii-only = c .before .before in
+    let at-name-end = at-ascii-only .before .before .before in
+    let at-if1 = at-name-end .before in
+    let start = at-if1 .before .before in
+    c .refuse3 .ensures ∙ not-ascii (start .args .slot .now) (at-name-end .name-end .result) (at-name-end .name-end .ensures) (at-if1 .if1 .left) (sym (at-ascii-only .ascii-only .ensures) ∙ not-true _ (c .before .if3 .taken))
 
 sub-zeros-only : tie.Need-sub-zeros-only
-sub-zeros-only c = end-within (c .before .before .before .before .before .before .before .args .slot .now) (c .before .before .before .before .name-end .result) (c .before .before .before .before .name-end .ensures)
+sub-zeros-only c =
+    let at-name-end = c .before .before .before .before in
+    let start = at-name-end .before .before .before in
+    end-within (start .args .slot .now) (at-name-end .name-end .result) (at-name-end .name-end .ensures)
 
 part-zeros-only-start : tie.Need-part-zeros-only-start
-part-zeros-only-start c = end-within (c .before .before .before .before .before .before .before .args .slot .now) (c .before .before .before .before .name-end .result) (c .before .before .before .before .name-end .ensures)
+part-zeros-only-start c =
+    let at-name-end = c .before .before .before .before in
+    let start = at-name-end .before .before .before in
+    end-within (start .args .slot .now) (at-name-end .name-end .result) (at-name-end .name-end .ensures)
 
 part-zeros-only-end : tie.Need-part-zeros-only-end
 part-zeros-only-end c = search needs
@@ -53,30 +70,57 @@ refuse-requires-4 c κs = search needs
 
 returns-4 : tie.Need-returns-4
 returns-4 c =
-    c .refuse4 .ensures ∙ not-zeros (c .before .before .before .before .before .before .before .before .before .before .before .args .slot .now) (c .before .before .before .before .before .before .before .before .name-end .result) (c .before .before .before .before .before .before .before .before .name-end .ensures) (c .before .before .before .before .before .before .before .before .before .if1 .left) (sym (c .before .before .zeros-only .ensures) ∙ not-true _ (c .before .if4 .taken))
+    let at-zeros-only = c .before .before in
+    let at-name-end = at-zeros-only .before .before .before .before .before .before in
+    let at-if1 = at-name-end .before in
+    let start = at-if1 .before .before in
+    c .refuse4 .ensures ∙ not-zeros (start .args .slot .now) (at-name-end .name-end .result) (at-name-end .name-end .ensures) (at-if1 .if1 .left) (sym (at-zeros-only .zeros-only .ensures) ∙ not-true _ (c .before .if4 .taken))
 
 capitals-requires : tie.Need-capitals-requires
 capitals-requires c κs = search needs
 
 array-share-prefix-full : tie.Need-array-share-prefix-full
 array-share-prefix-full c =
-    omega (arith, end-within (c .before .before .before .before .before .before .before .before .before .before .before .args .slot .now) (c .before .before .before .before .before .before .before .before .name-end .result) (c .before .before .before .before .before .before .before .before .name-end .ensures), full-length (c .before .before .before .before .before .before .before .before .before .before .before .args .slot .now) (c .before .before .before .before .before .before .before .before .name-end .result) (c .before .before .before .before .before .before .before .before .name-end .ensures) (c .before .before .before .before .before .before .before .before .before .if1 .left) (c .capitals .result) (c .capitals .ensures))
+    let at-name-end = c .before .before .before .before .before .before .before .before in
+    let at-if1 = at-name-end .before in
+    let start = at-if1 .before .before in
+    omega (arith, end-within (start .args .slot .now) (at-name-end .name-end .result) (at-name-end .name-end .ensures), full-length (start .args .slot .now) (at-name-end .name-end .result) (at-name-end .name-end .ensures) (at-if1 .if1 .left) (c .capitals .result) (c .capitals .ensures))
 
 slice-aggregate-create-term : tie.Need-slice-aggregate-create-term
 slice-aggregate-create-term c =
-    let long = full-length (c .before .before .before .before .before .before .before .before .before .before .before .before .args .slot .now) (c .before .before .before .before .before .before .before .before .before .name-end .result) (c .before .before .before .before .before .before .before .before .before .name-end .ensures) (c .before .before .before .before .before .before .before .before .before .before .if1 .left) (c .before .capitals .result) (c .before .capitals .ensures) in
-    sym (length-take-le _ (c .before .capitals .result) (omega (arith, end-within (c .before .before .before .before .before .before .before .before .before .before .before .before .args .slot .now) (c .before .before .before .before .before .before .before .before .before .name-end .result) (c .before .before .before .before .before .before .before .before .before .name-end .ensures))))
+    let at-name-end = c .before .before .before .before .before .before .before .before .before in
+    let at-if1 = at-name-end .before in
+    let start = at-if1 .before .before in
+    let long = full-length (start .args .slot .now) (at-name-end .name-end .result) (at-name-end .name-end .ensures) (at-if1 .if1 .left) (c .before .capitals .result) (c .before .capitals .ensures) in
+    sym (length-take-le _ (c .before .capitals .result) (omega (arith, end-within (start .args .slot .now) (at-name-end .name-end .result) (at-name-end .name-end .ensures))))
 
 create-term-requires : tie.Need-create-term-requires
 create-term-requires c κs =
-    clean (c .before .before .before .before .before .before .before .before .before .before .before .before .args .slot .now) (c .before .before .before .before .before .before .before .before .before .name-end .result) (c .before .before .before .before .before .before .before .before .before .name-end .ensures) (c .before .before .before .before .before .before .before .before .before .before .if1 .left) (c .before .capitals .result) (c .before .capitals .ensures) (c .before .before .before .before .before .before .before .before .if2 .left)
-    (sym (c .before .before .before .before .before .before .ascii-only .ensures) ∙ not-false _ (c .before .before .before .before .before .if3 .left)) (sym (c .before .before .before .zeros-only .ensures) ∙ not-false _ (c .before .before .if4 .left))
+    let at-if4 = c .before .before in
+    let at-zeros-only = at-if4 .before in
+    let at-if3 = at-zeros-only .before .before in
+    let at-ascii-only = at-if3 .before in
+    let at-if2 = at-ascii-only .before .before in
+    let at-name-end = at-if2 .before in
+    let at-if1 = at-name-end .before in
+    let start = at-if1 .before .before in
+    clean (start .args .slot .now) (at-name-end .name-end .result) (at-name-end .name-end .ensures) (at-if1 .if1 .left) (c .before .capitals .result) (c .before .capitals .ensures) (at-if2 .if2 .left)
+    (sym (at-ascii-only .ascii-only .ensures) ∙ not-false _ (at-if3 .if3 .left)) (sym (at-zeros-only .zeros-only .ensures) ∙ not-false _ (at-if4 .if4 .left))
 
 returns-5 : tie.Need-returns-5
 returns-5 c =
+    let at-capitals = c .before .before in
+    let at-if4 = at-capitals .before in
+    let at-zeros-only = at-if4 .before in
+    let at-if3 = at-zeros-only .before .before in
+    let at-ascii-only = at-if3 .before in
+    let at-if2 = at-ascii-only .before .before in
+    let at-name-end = at-if2 .before in
+    let at-if1 = at-name-end .before in
+    let start = at-if1 .before .before in
     c .create-term .ensures
-    ∙ created (c .before .before .before .before .before .before .before .before .before .before .before .before .before .args .slot .now) (c .before .before .before .before .before .before .before .before .before .before .name-end .result) (c .before .before .before .before .before .before .before .before .before .before .name-end .ensures) (c .before .before .before .before .before .before .before .before .before .before .before .if1 .left) (c .before .before .capitals .result) (c .before .before .capitals .ensures) (c .before .before .before .before .before .before .before .before .before .if2 .left)
-    (sym (c .before .before .before .before .before .before .before .ascii-only .ensures) ∙ not-false _ (c .before .before .before .before .before .before .if3 .left)) (sym (c .before .before .before .before .zeros-only .ensures) ∙ not-false _ (c .before .before .before .if4 .left))
+    ∙ created (start .args .slot .now) (at-name-end .name-end .result) (at-name-end .name-end .ensures) (at-if1 .if1 .left) (at-capitals .capitals .result) (at-capitals .capitals .ensures) (at-if2 .if2 .left)
+    (sym (at-ascii-only .ascii-only .ensures) ∙ not-false _ (at-if3 .if3 .left)) (sym (at-zeros-only .zeros-only .ensures) ∙ not-false _ (at-if4 .if4 .left))
 
 pub read-term-spec : {M : Type 1} → statement M
 read-term-spec =

@@ -40,23 +40,33 @@ other-term-requires c κs = search needs
 returns : tie.Need-returns
 unfolding byKnown
 returns c =
-    let n = c .before .before .before .before .before .before .before .before .args .name .now in
-    let is : find fixedNames n ≡ c .before .before .before .before .before .fixed-name .result = sym (c .before .before .before .before .before .fixed-name .ensures ∙ ap (lookup (keyed fixedNames) Known.Other) (c .before .before .before .before .before .before .key-of .ensures) ∙ by-key n (c .before .before .before .before .before .before .before .before .pre .bytes)) in
+    let at-t = c .before .before .before in
+    let at-fixed-name = at-t .before .before in
+    let at-key-of = at-fixed-name .before in
+    let start = at-key-of .before .before in
+    let n = start .args .name .now in
+    let is : find fixedNames n ≡ at-fixed-name .fixed-name .result = sym (at-fixed-name .fixed-name .ensures ∙ ap (lookup (keyed fixedNames) Known.Other) (at-key-of .key-of .ensures) ∙ by-key n (start .pre .bytes)) in
     c .accept .ensures
-    ∙ (λ i. answer 0 (TermKind.Equatorial (c .before .before .before .t .given .0 .0)) (c .before .before .before .before .before .before .before .before .pre .full-is i) (c .before .no-components .ensures i))
-    ∙ sym (ap (byKnown n) (is ∙ c .before .before .before .t .given .1))
+    ∙ (λ i. answer 0 (TermKind.Equatorial (at-t .t .given .0 .0)) (start .pre .full-is i) (c .before .no-components .ensures i))
+    ∙ sym (ap (byKnown n) (is ∙ at-t .t .given .1))
 
 returns-2 : tie.Need-returns-2
 unfolding byKnown
 returns-2 c =
-    let n = c .before .before .before .before .before .before .args .name .now in
-    let is : find fixedNames n ≡ c .before .before .before .fixed-name .result = sym (c .before .before .before .fixed-name .ensures ∙ ap (lookup (keyed fixedNames) Known.Other) (c .before .before .before .before .key-of .ensures) ∙ by-key n (c .before .before .before .before .before .before .pre .bytes)) in
+    let at-fixed-name = c .before .before .before in
+    let at-key-of = at-fixed-name .before in
+    let start = at-key-of .before .before in
+    let n = start .args .name .now in
+    let is : find fixedNames n ≡ at-fixed-name .fixed-name .result = sym (at-fixed-name .fixed-name .ensures ∙ ap (lookup (keyed fixedNames) Known.Other) (at-key-of .key-of .ensures) ∙ by-key n (start .pre .bytes)) in
     c .refuse .ensures ∙ sym (ap (byKnown n) (is ∙ c .before .enum-told .given .1))
 
 returns-3 : tie.Need-returns-3
 returns-3 c =
-    let n = c .before .before .before .before .before .before .args .name .now in
-    let is : find fixedNames n ≡ c .before .before .before .fixed-name .result = sym (c .before .before .before .fixed-name .ensures ∙ ap (lookup (keyed fixedNames) Known.Other) (c .before .before .before .before .key-of .ensures) ∙ by-key n (c .before .before .before .before .before .before .pre .bytes)) in
+    let at-fixed-name = c .before .before .before in
+    let at-key-of = at-fixed-name .before in
+    let start = at-key-of .before .before in
+    let n = start .args .name .now in
+    let is : find fixedNames n ≡ at-fixed-name .fixed-name .result = sym (at-fixed-name .fixed-name .ensures ∙ ap (lookup (keyed fixedNames) Known.Other) (at-key-of .key-of .ensures) ∙ by-key n (start .pre .bytes)) in
     c .other-term .ensures ∙ sym (ap (byKnown n) (is ∙ c .before .enum-told2 .given .1))
 
 pub create-term-spec : {M : Type 1} → statement M
