@@ -24,8 +24,13 @@ flexure-requires c κs = search needs
 
 returns-2 : tie.Need-returns-2
 returns-2 c =
-    rw (small-is (c .before .before .before .before .before .before .args .p) _ (c .before .before .before .before .before .sin-altitude .ensures) _ _ (c .before .before .before .before .abs .ensures) (c .before .before .before .if1 .left))
-    (ap₂ (λ (f : Pair) (a : Float). pairOf (f .dh ⊘ a) (f .dd ⊘ a)) (c .before .before .flexure .ensures) (c .before .before .before .before .before .sin-altitude .ensures))
+    let at-flexure = c .before .before in
+    let at-if1 = at-flexure .before in
+    let at-abs = at-if1 .before in
+    let at-sin-altitude = at-abs .before in
+    let start = at-sin-altitude .before in
+    rw (small-is (start .args .p) _ (at-sin-altitude .sin-altitude .ensures) _ _ (at-abs .abs .ensures) (at-if1 .if1 .left))
+    (ap₂ (λ (f : Pair) (a : Float). pairOf (f .dh ⊘ a) (f .dd ⊘ a)) (at-flexure .flexure .ensures) (at-sin-altitude .sin-altitude .ensures))
 
 pub tx-spec : {M : Type 1} → statement M
 tx-spec =

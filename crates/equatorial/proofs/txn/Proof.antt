@@ -33,12 +33,21 @@ flexure-requires c κs = search needs
 
 returns-2 : tie.Need-returns-2
 returns-2 c =
-    let a = c .before .before .before .before .before .before .before .before .before .before .args in
-    let altitude = c .before .before .before .before .before .before .before .before .before .sin-altitude .ensures in
+    let at-flexure = c .before .before in
+    let at-pow = at-flexure .before in
+    let at-less-one = at-pow .before in
+    let at-sqrt = at-less-one .before in
+    let at-at-least-zero = at-sqrt .before in
+    let at-if1 = at-at-least-zero .before in
+    let at-abs = at-if1 .before in
+    let at-sin-altitude = at-abs .before in
+    let start = at-sin-altitude .before in
+    let a = start .args in
+    let altitude = at-sin-altitude .sin-altitude .ensures in
     let scale =
-    scale-is (a .p) _ altitude (a .n) _ _ _ _ (c .before .before .before .before .before .before .at-least-zero .ensures) (c .before .before .before .before .before .sqrt .ensures) (c .before .before .before .before .less-one .ensures) (c .before .before .before .pow .ensures) in
-    let flexed = c .before .before .flexure .ensures in
-    rw (small-is (a .p) _ altitude _ _ (c .before .before .before .before .before .before .before .before .abs .ensures) (c .before .before .before .before .before .before .before .if1 .left))
+    scale-is (a .p) _ altitude (a .n) _ _ _ _ (at-at-least-zero .at-least-zero .ensures) (at-sqrt .sqrt .ensures) (at-less-one .less-one .ensures) (at-pow .pow .ensures) in
+    let flexed = at-flexure .flexure .ensures in
+    rw (small-is (a .p) _ altitude _ _ (at-abs .abs .ensures) (at-if1 .if1 .left))
     (λ i. pairOf (scale i ⊗ flexed i .dh ⊘ altitude i) (scale i ⊗ flexed i .dd ⊘ altitude i))
 
 pub txn-spec : {M : Type 1} → statement M
