@@ -30,6 +30,7 @@ pub enum NumberRead {
     Malformed,
 }
 
+// The answer that carries a blank term.
 pub fn refuse(number: u8) -> Reading
     ensures { λ r. ⌜ r ≡ refused number ⌝ }
 {
@@ -46,6 +47,7 @@ pub fn refuse(number: u8) -> Reading
     }
 }
 
+// The answer for a name that is read.
 fn accept(kind: TermKind, name: [u8; 16], components: Components) -> Reading
     ensures { λ r. ⌜ r ≡ answer 0 kind name components ⌝ }
 {
@@ -251,6 +253,7 @@ fn numbered_term(number: NumberRead) -> Reading
     )
 }
 
+// A name that begins with H.
 fn read_harmonic(name: &[u8], full: [u8; 16]) -> Reading
     requires { ⌜ Clean (now name) full ⌝ }
     ensures { λ r. ⌜ r ≡ readHarmonic (now (name .entry)) ⌝ }
