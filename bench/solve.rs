@@ -247,7 +247,7 @@ fn compare(random: &mut Random, cases: u64) {
 
 fn main() {
     let mut random = Random(88172645463325252);
-    for (rows, m, runs) in [(2048, 32, 9), (200, 16, 60), (40, 6, 2000)] {
+    for (rows, m, runs) in [(2048, 32, 20), (200, 16, 1000), (40, 6, 20000)] {
         time(&mut random, rows, m, runs);
     }
     compare(&mut random, 20000);

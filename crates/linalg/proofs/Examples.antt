@@ -9,7 +9,7 @@ use Rattle.sqrt.specs.Sqrt as Root
 use Rattle.jacobi.specs.Jacobi.{zetaOf, tanOf, cosOf, turn, pair, row, sweep, sweeps}
 use Rattle.column.specs.Column.{norm, norms, scaleOf, scaledColumn, unitColumn, columns, diagonal, diagonals, extended}
 use Rattle.order.specs.Order.{best, order}
-use Rattle.linalg.specs.Linalg.{threshold, inverse, inverses, rankTo, projected, rowDot, solution, spread, covariance, leverageOf, decomposed, Solved, answered, solved, solvedDamped}
+use Rattle.linalg.specs.Linalg.{threshold, inverse, inverses, rankTo, projected, xScaled, solution, scaledVariance, covariance, leverageOf, decomposed, Solved, answered, solved, solvedDamped}
 
 abbrev #10 : Float
 #10 = ofBits binary64 0x4024_0000_0000_0000
@@ -46,5 +46,5 @@ cases : (at (four .outcome .x) 0 ≡ #15)
     × (equal .outcome .sweeps ≡ 2)
     × (equal .outcome .settled ≡ true)
     × (at (damped .outcome .x) 0 ≡ ofBits binary64 0x4004_0000_0000_0000)
-unfolding solvedDamped solved answered decomposed norms norm scaleOf scaledColumn unitColumn columns diagonal diagonals extended filled table each dot sumTo sumBut inverses inverse rankTo projected rowDot solution spread covariance leverageOf threshold order best sweeps sweep row pair turn zetaOf tanOf cosOf zipWith add sub mul div neg lt le eq ofBits abs Root.sqrt
+unfolding solvedDamped solved answered decomposed norms norm scaleOf scaledColumn unitColumn columns diagonal diagonals extended filled table each dot sumTo sumBut inverses inverse rankTo projected xScaled solution scaledVariance covariance leverageOf threshold order best sweeps sweep row pair turn zetaOf tanOf cosOf zipWith add sub mul div neg lt le eq ofBits abs Root.sqrt
 cases = (refl, refl, refl, refl, refl, refl, refl)
