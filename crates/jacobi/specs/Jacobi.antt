@@ -1,5 +1,5 @@
--- One-sided Jacobi, as document 01 "Substitutions" states it, on columns that lie one after the other in one list.
--- A column is h numbers: `rows` of A, then m of V, then what the list holds besides.
+-- One-sided Jacobi, sentence by sentence as document 01 "Substitutions" states it, on m columns that lie one after the other in a list.
+-- A column is h numbers: `rows` of A, then m of V, then what the list holds besides. Definitions only.
 use mathlib.Core.Bool.{Bool, true, false, cond}
 use mathlib.Core.List.{List, zipWith}
 use Prim.Native.Nat.{ℕ, zero, suc, _+_, _-_, _*_}
@@ -16,14 +16,15 @@ sqrt x = Root.sqrt binary64 x
 abbrev pub tiny : Float
 tiny = ofBits binary64 0x39b0_0000_0000_0000
 
--- ζ of a pair of columns with squared norms α and β and dot product γ
+-- ζ = (β-α)/(2·γ)
 unfoldable pub zetaOf : Float → Float → Float → Float
 zetaOf α β γ = (β ⊖ α) ⊘ (#2 ⊗ γ)
 
--- t, negated if ζ < 0; and c
+-- t = 1/(|ζ| + sqrt(1+ζ·ζ)), negated if ζ < 0
 unfoldable pub tanOf : Float → Float
 tanOf ζ = let t = #1 ⊘ (abs ζ ⊕ sqrt (#1 ⊕ ζ ⊗ ζ)) in cond (lt ζ #0) (neg t) t
 
+-- c = 1/sqrt(1+t·t)
 unfoldable pub cosOf : Float → Float
 cosOf t = #1 ⊘ sqrt (#1 ⊕ t ⊗ t)
 
@@ -39,7 +40,7 @@ unfoldable pub turn : Float → Float → ℕ → ℕ → ℕ → List Float →
 turn c s n x y l =
     sets (sets l x (zipWith (newP c s) (part l x n) (part l y n))) y (zipWith (newQ c s) (part l x n) (part l y n))
 
--- the columns as they stand, and whether a pair of this sweep has turned
+-- the list as it stands, and whether a pair of this sweep has turned
 pub record State : Type 0 where
   pub w : List Float
   pub turned : Bool
@@ -48,7 +49,7 @@ pub record State : Type 0 where
 abbrev pub col : ℕ → ℕ → List Float → ℕ → List Float
 col h rows w j = part w (j * h) rows
 
--- the pair of columns p, q: V turns with A
+-- columns p and q turn only if γ·γ > 2^-100·(α·β), and V's rows turn with A's; s = c·t
 unfoldable pub pair : ℕ → ℕ → ℕ → ℕ → ℕ → State → State
 pair h rows m p q st =
     let x = col h rows (st .w) p in
@@ -58,8 +59,9 @@ pair h rows m p q st =
     let γ = dot x y in
     let t = tanOf (zetaOf α β γ) in
     let c = cosOf t in
+    let s = c ⊗ t in
     cond (lt (tiny ⊗ (α ⊗ β)) (γ ⊗ γ))
-    (record { w = turn c (c ⊗ t) (rows + m) (p * h) (q * h) (st .w); turned = true })
+    (record { w = turn c s (rows + m) (p * h) (q * h) (st .w); turned = true })
     st
 
 -- the pairs of p with each q above it

@@ -1,17 +1,20 @@
-// One-sided Jacobi: the columns of A, each with its column of V below it, are turned pair by pair until no pair turns.
+// One-sided Jacobi, document 01's substitute for nalgebra's singular value decomposition. A matrix A
+// and V below it lie in one lent slice w, column after column: of the h numbers of a column the first
+// `rows` are A's (data rows, and damping rows below them where there are any) and the next m are V's,
+// so that one turn turns A and V.
 
 ghost use mathlib.Core.Path.{_≡_};
 ghost use mathlib.Core.Bool.{Bool, cond, true};
 ghost use Prim.Native.Nat.{_+_, _*_, _≤_, _<_};
 ghost use lib.ListN.{length};
-ghost use Rattle.sequence.specs.Sequence.{part, dot as dotOf};
+ghost use Rattle.sequence.specs.Sequence.{part, dot};
 ghost use Rattle.jacobi.specs.Jacobi.{zetaOf, tanOf, cosOf, turn as turnOf, pair as pairOf, factorised};
 
 // The squared norms of two columns and their dot product.
-pub struct Products {
-    pub alpha: f64,
-    pub beta: f64,
-    pub gamma: f64,
+struct Products {
+    alpha: f64,
+    beta: f64,
+    gamma: f64,
 }
 
 // How many sweeps were made, and whether the last had no turn.
@@ -21,12 +24,12 @@ pub struct Sweeps {
     pub settled: bool,
 }
 
-// Three sums side by side, each from 0 in rising index: one pass over the two columns.
-pub fn sums(w: &[f64], x: usize, y: usize, n: usize) -> Products
+// The three sums of the n numbers from x on and the n from y on, in one pass, each in its own order.
+fn sums(w: &[f64], x: usize, y: usize, n: usize) -> Products
     requires { ⌜ (x + n ≤ length (now w)) × (y + n ≤ length (now w)) ⌝ }
     ensures { λ r. ⌜ r ≡ (let p = part (now (w .entry)) x n in
         let q = part (now (w .entry)) y n in
-        record { alpha = dotOf p p; beta = dotOf q q; gamma = dotOf p q }) ⌝ }
+        record { alpha = dot p p; beta = dot q q; gamma = dot p q }) ⌝ }
 {
     let mut alpha = 0.0;
     let mut beta = 0.0;
@@ -42,7 +45,7 @@ pub fn sums(w: &[f64], x: usize, y: usize, n: usize) -> Products
 }
 
 // The n numbers from x on and the n from y on, turned.
-pub fn turn(w: &mut [f64], x: usize, y: usize, n: usize, c: f64, s: f64)
+fn turn(w: &mut [f64], x: usize, y: usize, n: usize, c: f64, s: f64)
     requires { ⌜ (x + n ≤ y) × (y + n ≤ length (now w)) ⌝ }
     ensures { λ _. ⌜ now (w .exit) ≡ turnOf c s n x y (now (w .entry)) ⌝ }
 {
@@ -54,8 +57,8 @@ pub fn turn(w: &mut [f64], x: usize, y: usize, n: usize, c: f64, s: f64)
     }
 }
 
-// t of a pair with squared norms alpha and beta and dot product gamma.
-pub fn tangent(alpha: f64, beta: f64, gamma: f64) -> f64
+// t of a pair, from its three sums.
+fn tangent(alpha: f64, beta: f64, gamma: f64) -> f64
     ensures { λ r. ⌜ r ≡ tanOf (zetaOf alpha beta gamma) ⌝ }
 {
     let zeta = (beta - alpha) / (2.0 * gamma);
@@ -63,14 +66,15 @@ pub fn tangent(alpha: f64, beta: f64, gamma: f64) -> f64
     if zeta < 0.0 { -t } else { t }
 }
 
-pub fn cosine(t: f64) -> f64
+// c from t.
+fn cosine(t: f64) -> f64
     ensures { λ r. ⌜ r ≡ cosOf t ⌝ }
 {
     1.0 / sqrt::sqrt(1.0 + t * t)
 }
 
-// One pair: whether it turned.
-pub fn pair(w: &mut [f64], h: usize, rows: usize, m: usize, p: usize, q: usize) -> bool
+// Columns p and q: whether they turned. The number compared with is 2^-100.
+fn pair(w: &mut [f64], h: usize, rows: usize, m: usize, p: usize, q: usize) -> bool
     requires { ⌜ (p < q) × (q < m) × (rows + m ≤ h) × (m * h ≤ length (now w)) ⌝ }
     ensures { λ r. ⌜ ((b : Bool) → record { w = now (w .exit); turned = cond r true b } ≡ pairOf h rows m p q (record { w = now (w .entry); turned = b })) ⌝ }
 {

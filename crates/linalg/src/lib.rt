@@ -86,14 +86,7 @@ fn invert(s: &[f64; 32], o: &[usize], t: f64) -> Inverses
 }
 
 // z = inv_s * (U^T b); b has zeros down to the last row.
-fn project(
-    w: &[f64],
-    h: usize,
-    rows: usize,
-    b: &[f64],
-    o: &[usize],
-    inv_s: &[f64; 32],
-) -> [f64; 32]
+fn project(w: &[f64], h: usize, rows: usize, b: &[f64], o: &[usize], inv_s: &[f64; 32]) -> [f64; 32]
     requires { ⌜ Placed h (now w) (now o) × (rows ≤ h) × (length (now b) ≤ rows) ⌝ }
     ensures { λ r. ⌜ r ≡ projected h rows (now (w .entry)) (extended rows (now (b .entry))) (now (o .entry)) (now («inv_s» .entry)) ⌝ }
 {
