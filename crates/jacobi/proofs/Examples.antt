@@ -8,7 +8,7 @@ use lib.Ieee.{Float, binary64, add, sub, mul, div, neg, lt, ofBits}
 use Rattle.float.specs.Float.{#0, #1, #2, abs}
 use Rattle.sequence.specs.Sequence.{each, dot}
 use Rattle.sqrt.specs.Sqrt as Root
-use Rattle.jacobi.specs.Jacobi.{Factorised, zetaOf, tanOf, cosOf, turn, pair, row, sweep, sweeps, factorised}
+use Rattle.jacobi.specs.Jacobi.{zetaOf, tanOf, cosOf, turn, pair, row, sweep, sweeps, factorised}
 
 abbrev bits : List ℕ → List Float
 bits l = map (ofBits binary64) l

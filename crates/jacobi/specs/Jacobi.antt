@@ -1,5 +1,6 @@
 -- One-sided Jacobi, sentence by sentence as document 01 "Substitutions" states it, on m columns that lie one after the other in a list.
--- A column is h numbers: `rows` of A, then m of V, then what the list holds besides. Definitions only.
+-- A column is h numbers: `rows` of A, then m of V, then what the list holds besides. V starts as the identity, which `decomposed` of
+-- linalg writes there. Definitions only.
 use mathlib.Core.Bool.{Bool, true, false, cond}
 use mathlib.Core.List.{List, zipWith}
 use Prim.Native.Nat.{ℕ, zero, suc, _+_, _-_, _*_}

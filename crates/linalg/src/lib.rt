@@ -230,7 +230,7 @@ fn answer(
         x,
         cov_diag,
         rank: k.rank,
-        sigma_max: sigma_max,
+        sigma_max,
         sigma_min: values[last],
         sweeps: d.made,
         settled: d.settled,
