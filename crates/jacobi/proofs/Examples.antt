@@ -21,7 +21,7 @@ turning : factorised 4 2 2 (#1 ∷ #0 ∷ #1 ∷ #0 ∷ #1 ∷ #1 ∷ #0 ∷ #1 
       made = 2;
       settled = true;
     }
-unfolding sweeps sweep row each pair turn zetaOf tanOf cosOf dot zipWith map add sub mul div neg lt ofBits abs Root.sqrt
+unfolding sweeps sweep row each pair turn zetaOf tanOf cosOf dot zipWith add sub mul div neg lt ofBits abs Root.sqrt
 turning = refl
 
 -- (1, 0) and (-1, 0), where ζ is -0: t is 1, and column 1 becomes zeros
@@ -31,7 +31,7 @@ negative-zero : factorised 4 2 2 (#1 ∷ #0 ∷ #1 ∷ #0 ∷ ofBits binary64 0x
       made = 2;
       settled = true;
     }
-unfolding sweeps sweep row each pair turn zetaOf tanOf cosOf dot zipWith map add sub mul div neg lt ofBits abs Root.sqrt
+unfolding sweeps sweep row each pair turn zetaOf tanOf cosOf dot zipWith add sub mul div neg lt ofBits abs Root.sqrt
 negative-zero = refl
 
 -- (3, 4) and (4, -3), and (0, 0) and (1, 2): no pair turns, and all stays as it was
@@ -39,9 +39,9 @@ abbrev Still : List Float → Type 0
 Still w = factorised 4 2 2 w ≡ record { w = w; made = 1; settled = true }
 
 still : Still (bits (0x4008_0000_0000_0000 ∷ 0x4010_0000_0000_0000 ∷ 0x3ff0_0000_0000_0000 ∷ 0 ∷ 0x4010_0000_0000_0000 ∷ 0xc008_0000_0000_0000 ∷ 0 ∷ 0x3ff0_0000_0000_0000 ∷ []))
-unfolding sweeps sweep row each pair dot zipWith map add sub mul div neg lt ofBits
+unfolding sweeps sweep row each pair dot zipWith add sub mul div neg lt ofBits
 still = refl
 
 zero-column : Still (#0 ∷ #0 ∷ #1 ∷ #0 ∷ #1 ∷ #2 ∷ #0 ∷ #1 ∷ [])
-unfolding sweeps sweep row each pair dot zipWith map add sub mul div neg lt ofBits
+unfolding sweeps sweep row each pair dot zipWith add sub mul div neg lt ofBits
 zero-column = refl
