@@ -21,6 +21,7 @@ use Rattle.order.proofs.All.{all-getD, all-from, all-append, all-take, 
 
 -- ---- floats
 
+-- a test that can't hold is false
 pub refuted : (b : Bool) → (T b → ⊥) → b ≡ false
 refuted true f = absurd (f tt)
 refuted false f = refl
