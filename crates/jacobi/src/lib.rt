@@ -62,7 +62,8 @@ fn tangent(alpha: f64, beta: f64, gamma: f64) -> f64
     ensures { λ r. ⌜ r ≡ tanOf (zetaOf alpha beta gamma) ⌝ }
 {
     let zeta = (beta - alpha) / (2.0 * gamma);
-    let t = 1.0 / (float::abs(zeta) + sqrt::sqrt(1.0 + zeta * zeta));
+    let root = sqrt::sqrt(1.0 + zeta * zeta);
+    let t = 1.0 / (float::abs(zeta) + root);
     if zeta < 0.0 { -t } else { t }
 }
 
