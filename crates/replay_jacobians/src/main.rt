@@ -73,27 +73,6 @@ fn read_sheet(sheet: &mut [f64], l: usize)
     }
 }
 
-// A name: how many bytes its slot has, at most 32, then those.
-fn read_name(slot: &mut [u8])
-    requires { ⌜ length (now slot) ≡ 33 ⌝ }
-{
-    let n = replay::wide(replay::byte());
-    if n <= 32 {
-        slot[0] = n as u8;
-        replay::next(&mut slot[1..1 + n]);
-    }
-}
-
-// k names, 33 bytes each.
-fn read_names(names: &mut [u8], k: usize)
-    requires { ⌜ (33 * k ≤ length (now names)) ⌝ }
-{
-    for j in 0..k {
-        let a = 33 * j;
-        read_name(&mut names[a..a + 33]);
-    }
-}
-
 // One name of a block.
 fn answer(t: Tally, names: &[u8], j: usize, sheet: &[f64], p: Place) -> Tally
     requires { ⌜ 33 * j + 33 ≤ length (now names) ⌝ }
@@ -180,13 +159,12 @@ fn blocks(names: &[u8], k: usize, sheet: &mut [f64])
         not_numbers: 0,
         different: 0,
     };
+    let mut more = true;
     let mut turns = u64::MAX;
-    while turns > 0 {
+    while turns > 0 && more {
         let s = block(t, names, k, sheet);
         t = s.tally;
-        if !s.more {
-            break;
-        }
+        more = s.more;
         turns -= 1;
     }
     report(t);
@@ -198,6 +176,15 @@ fn sheet_room() -> [f64; 256]
     [0.0; 256]
 }
 
+// The k names: how many bytes the slot has, then 32 bytes; and all blocks.
+fn run(names: &mut [u8], k: usize, sheet: &mut [f64])
+    requires { ⌜ (k ≤ 200) × (6600 ≤ length (now names)) × (256 ≤ length (now sheet)) ⌝ }
+{
+    let n = 33 * k;
+    replay::next(&mut names[..n]);
+    blocks(names, k, sheet);
+}
+
 fn main() {
     let mut names = io::large_buffer();
     let mut sheet = sheet_room();
@@ -205,7 +192,6 @@ fn main() {
     replay::next(&mut head);
     let k = little_endian::u16_at(&head, 0) as usize;
     if k <= 200 {
-        read_names(&mut names, k);
-        blocks(&names, k, &mut sheet);
+        run(&mut names, k, &mut sheet);
     }
 }

@@ -6,10 +6,10 @@ use Rattle.replay_jacobians.proofs.blocks.Statement.{statement}
 use Rattle.replay_jacobians.proofs.blocks.Tie as tie
 
 abbrev Inv-loop : tie.InvT-loop
-Inv-loop names k sheet₀ t₀ turns₀ sheet t turns = length sheet ≡ length sheet₀
+Inv-loop names k sheet₀ t₀ more₀ turns₀ sheet t more turns = length sheet ≡ length sheet₀
 
 abbrev μ-loop : tie.MeasureT-loop
-μ-loop names k sheet₀ t₀ turns₀ sheet t turns = turns
+μ-loop names k sheet₀ t₀ more₀ turns₀ sheet t more turns = turns
 
 loop-holds : tie.Need-loop-holds Inv-loop μ-loop
 loop-holds c = refl
