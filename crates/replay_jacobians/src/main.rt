@@ -22,18 +22,6 @@ struct Place {
     pier: u8,
 }
 
-// A double of standard input.
-fn double() -> f64 {
-    let mut b = [0u8; 8];
-    replay::next(&mut b);
-    little_endian::f64_at(&b, 0)
-}
-
-// Whether a number is the oracle's next, in its bits.
-fn same_double(x: f64) -> bool {
-    float::to_bits(x) == float::to_bits(double())
-}
-
 // The oracle's answer to one name, held against ours.
 fn count(mut t: Tally, ours: Jacobian) -> Tally {
     let expected = replay::byte();
@@ -54,8 +42,8 @@ fn count(mut t: Tally, ours: Jacobian) -> Tally {
                 t.different = replay::more(t.different);
                 return t;
             }
-            let same_h = same_double(p.dh);
-            let same_d = same_double(p.dd);
+            let same_h = replay::same_double(p.dh);
+            let same_d = replay::same_double(p.dd);
             if !(same_h && same_d) {
                 t.different = replay::more(t.different);
             }
@@ -69,7 +57,7 @@ fn read_sheet(sheet: &mut [f64], l: usize)
     requires { ⌜ l ≤ length (now sheet) ⌝ }
 {
     for i in 0..l {
-        sheet[i] = double();
+        sheet[i] = replay::double();
     }
 }
 
@@ -121,8 +109,8 @@ fn block(mut t: Tally, names: &[u8], k: usize, sheet: &mut [f64]) -> Step
     }
     let l = replay::wide(head[0]);
     read_sheet(sheet, l);
-    let sin_lat = double();
-    let cos_lat = double();
+    let sin_lat = replay::double();
+    let cos_lat = replay::double();
     let pier = replay::byte();
     t.blocks = replay::more(t.blocks);
     let p = Place {
