@@ -1,0 +1,75 @@
+-- The Jacobians of the equatorial terms, from document 01 and terms/equatorial.rs, in binary64 and in the source's order of operations. Definitions only.
+use Prim.Native.Nat.{ℕ, zero, suc, _-_}
+use mathlib.Core.Bool.{Bool, cond}
+use lib.Ieee.{Float, binary64, ofBits, neg, lt}
+use Rattle.float.specs.Float.{_⊕_, _⊖_, _⊗_, _⊘_, #0, #1, abs}
+use Rattle.sqrt.specs.Sqrt.{sqrt}
+use Rattle.observation.specs.Sheet.{pairOf}
+use Rattle.observation.specs.declared.Point.{Point}
+use Rattle.observation.specs.declared.Pair.{Pair}
+use Rattle.equatorial.specs.declared.EquatorialTerm.{EquatorialTerm}
+use Rattle.equatorial.specs.declared.EquatorialTerm.the-variants.{IH, ID, CH, NP, MA, ME, TF, TX, TXN, DAF, FO, HCES, HCEC, DCES, DCEC}
+
+-- ---- tube flexure
+
+-- sin_alt of TX, cos_z of TXN
+abbrev pub sinAlt : Point → Float
+sinAlt p = p .«sin_lat» ⊗ p .«sin_dec» ⊕ p .«cos_lat» ⊗ p .«cos_dec» ⊗ p .«cos_h»
+
+-- `x.abs() < 1e-10`
+abbrev pub small : Float → Bool
+small x = lt (abs x) (ofBits binary64 0x3ddb7cdfd9d7bdbb)
+
+-- dh_tf and dd_tf of TX and TXN
+abbrev pub flexureH : Point → Float
+flexureH p = p .«cos_lat» ⊗ p .«sin_h» ⊘ p .«cos_dec»
+
+abbrev pub flexureD : Point → Float
+flexureD p = p .«cos_lat» ⊗ p .«cos_h» ⊗ p .«sin_dec» ⊖ p .«sin_lat» ⊗ p .«cos_dec»
+
+abbrev pub tfOf : Point → Pair
+tfOf p = pairOf (neg (p .«cos_lat») ⊗ p .«sin_h» ⊘ p .«cos_dec») (neg (flexureD p))
+
+abbrev pub txOf : Point → Pair
+txOf p = cond (small (sinAlt p)) (pairOf #0 #0) (pairOf (flexureH p ⊘ sinAlt p) (flexureD p ⊘ sinAlt p))
+
+-- `x.max(0.0)`: x where it is above 0, and 0 otherwise, for a NaN too
+abbrev pub atLeastZero : Float → Float
+atLeastZero x = cond (lt #0 x) x #0
+
+-- tan_z, from cos_z
+abbrev pub tanZ : Float → Float
+tanZ c = sqrt binary64 (atLeastZero (#1 ⊖ c ⊗ c)) ⊘ c
+
+-- the product of n factors x, from the left, starting at 1
+unfoldable pub power : Float → ℕ → Float
+power x zero = #1
+power x (suc n) = power x n ⊗ x
+
+abbrev pub scaled : Float → Point → Pair
+scaled scale p = pairOf (scale ⊗ flexureH p ⊘ sinAlt p) (scale ⊗ flexureD p ⊘ sinAlt p)
+
+abbrev pub txnOf : Point → ℕ → Pair
+txnOf p n = cond (small (sinAlt p)) (pairOf #0 #0) (scaled (power (tanZ (sinAlt p)) (n - 1)) p)
+
+-- ---- one clause a term
+
+abbrev pub dafOf : Point → Pair
+dafOf p = pairOf (neg (p .«sin_lat» ⊗ p .«tan_dec» ⊕ p .«cos_lat» ⊗ p .«cos_h»)) #0
+
+abbrev pub jacobianOf : EquatorialTerm → Point → Pair
+jacobianOf IH p = pairOf (neg #1) #0
+jacobianOf ID p = pairOf #0 (neg (p .pier))
+jacobianOf CH p = pairOf (neg (p .pier) ⊘ p .«cos_dec») #0
+jacobianOf NP p = pairOf (neg (p .pier) ⊗ p .«tan_dec») #0
+jacobianOf MA p = pairOf (p .«cos_h» ⊗ p .«tan_dec») (neg (p .«sin_h»))
+jacobianOf ME p = pairOf (neg (p .«sin_h») ⊗ p .«tan_dec») (neg (p .«cos_h»))
+jacobianOf TF p = tfOf p
+jacobianOf TX p = txOf p
+jacobianOf (TXN n) p = txnOf p n
+jacobianOf DAF p = dafOf p
+jacobianOf FO p = pairOf #0 (p .«cos_h»)
+jacobianOf HCES p = pairOf (p .«sin_h») #0
+jacobianOf HCEC p = pairOf (p .«cos_h») #0
+jacobianOf DCES p = pairOf #0 (p .«sin_dec»)
+jacobianOf DCEC p = pairOf #0 (p .«cos_dec»)

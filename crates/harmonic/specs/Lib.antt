@@ -1,0 +1,4 @@
+pub mod Table
+pub mod Harmonic
+pub mod Value
+pub mod Inside

@@ -1,0 +1,28 @@
+-- `terms::names::read_harmonic` meets its contract. Assumes nothing.
+use borrow.Author.Needs.{needs}
+use borrow.Author.Tests.{not-true, not-false}
+use Rattle.terms.specs.Names.{readHarmonic}
+use Rattle.terms.proofs.names.read_harmonic.Statement.{statement}
+use Rattle.terms.proofs.names.read_harmonic.Tie as tie
+
+parse-harmonic-requires : tie.Need-parse-harmonic-requires
+parse-harmonic-requires c κs = search needs
+
+refuse-requires : tie.Need-refuse-requires
+refuse-requires c κs = search needs
+
+returns : tie.Need-returns
+unfolding readHarmonic
+returns c = rw (← c .before .before .before .parse-harmonic .ensures, not-true (c .before .before .before .parse-harmonic .result .ok) (c .before .if1 .taken)) (c .refuse .ensures)
+
+accept-requires : tie.Need-accept-requires
+accept-requires c κs = search needs
+
+returns-2 : tie.Need-returns-2
+unfolding readHarmonic
+returns-2 c =
+    rw (← c .before .before .before .before .parse-harmonic .ensures, not-false (c .before .before .before .before .parse-harmonic .result .ok) (c .before .before .if1 .left), ← c .before .before .before .before .before .before .pre .full-is) (c .accept .ensures)
+
+pub read-harmonic-spec : {M : Type 1} → statement M
+read-harmonic-spec =
+    tie.close (tie.spec parse-harmonic-requires refuse-requires returns accept-requires returns-2)
