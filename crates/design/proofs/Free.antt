@@ -1,12 +1,12 @@
 -- The number of free terms among the first ones. Assumes nothing.
-use Prim.Native.Nat.{ℕ, zero, suc, _+_, _≤_, _<_}
+use Prim.Native.Nat.{ℕ, zero, suc, _+_, _≤_}
 use native.Mathlib.Numerals.{add-one}
 use native.Mathlib.Omega.{arith}
-use mathlib.Core.Path.{_≡_, refl, sym, ap, _∙_}
+use mathlib.Core.Path.{_≡_, refl, ap, _∙_}
 use mathlib.Core.Bool.{Bool, true, false, cond}
 use mathlib.Core.List.{List}
 use Rattle.sequence.specs.Sequence.{each}
-use Rattle.sequence.proofs.Fills.{each-none, each-last}
+use Rattle.sequence.proofs.Fills.{each-last}
 use Rattle.design.specs.Design.{isFree, freeBefore}
 
 module _ (fixed : List ℕ) where

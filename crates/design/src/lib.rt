@@ -7,21 +7,14 @@ ghost use lib.ListN.{length};
 ghost use lib.Seq.{sets};
 ghost use lib.Ieee.{binary64, sub};
 ghost use Rattle.sequence.specs.Sequence.{at, part};
-ghost use Rattle.design.specs.Design.{sheetAt, cosDec, slope, less, plus, freeCount, freeBefore};
+ghost use Rattle.design.specs.Design.{sheetAt, cosDec, less, plus, freeCount};
 ghost use Rattle.design.specs.Filled.{slopeAt, columnTo, skyColumnTo, differencesTo, skyDifferencesTo};
 use observation::Pair;
 use observation::PierSide;
 use terms::Term;
 
 // The Jacobian of a term at star i: the part of the lent sheets that belongs to it is passed on.
-fn slope_at(
-    term: Term,
-    pier: &[u8],
-    sheets: &[f64],
-    sin_lat: f64,
-    cos_lat: f64,
-    i: usize,
-) -> Pair
+fn slope_at(term: Term, pier: &[u8], sheets: &[f64], sin_lat: f64, cos_lat: f64, i: usize) -> Pair
     requires { ⌜ (i < length (now pier)) × (length (now sheets) ≡ 37 * length (now pier)) ⌝ }
     ensures { λ r. ⌜ r ≡ slopeAt «sin_lat» «cos_lat» term (now (pier .entry)) (now (sheets .entry)) i ⌝ }
 {

@@ -102,4 +102,3 @@ packed-is (a ∷ b ∷ []) h = omega arith
 packed-is (a ∷ b ∷ c ∷ []) h = omega arith
 packed-is (a ∷ b ∷ c ∷ d ∷ []) h = omega arith
 packed-is (a ∷ b ∷ c ∷ d ∷ e ∷ n) h = absurd (omega arith)
-

@@ -5,7 +5,6 @@ use native.Mathlib.Numerals.{add-one}
 use mathlib.Core.Path.{_≡_, refl, _∙_, ap, ap₂, sym}
 use mathlib.Core.Bool.{Bool, true, false, cond, _&&_, and-false}
 use mathlib.Core.List.{List, [], _∷_, _++_, map, map-append}
-use mathlib.Core.Option.{none}
 use lib.ListN.{length, getD, take, drop, set, replicate, length-map, length-drop, drop-of-length-le, take-append-drop}
 use lib.Seq.{take-all, length-take-le, drop-cons, take-at, take-suc, take-suc-set}
 use lib.Dec.{eqb, ltb, leb}

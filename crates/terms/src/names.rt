@@ -10,7 +10,6 @@ ghost use Rattle.harmonic.specs.Table.{ascii, lookup};
 ghost use Rattle.terms.specs.declared.names.Known.{Known};
 ghost use Rattle.terms.specs.Names.{capital, padded, nameOf, answer, refused, fixedNames, find, digitsFrom, unsigned, decimal, readHarmonic, byKnown};
 ghost use Rattle.terms.specs.Inside.{Clean, keyOf, keyed, numberOf, numberedRead};
-
 use crate::Reading;
 use crate::Term;
 use crate::TermKind;
@@ -257,7 +256,11 @@ fn numbered_term(number: NumberRead) -> Reading
     if 255 < v {
         return refuse(9);
     }
-    accept(TermKind::Equatorial(EquatorialTerm::TXN(v as u8)), txn_name(v), no_components())
+    accept(
+        TermKind::Equatorial(EquatorialTerm::TXN(v as u8)),
+        txn_name(v),
+        no_components(),
+    )
 }
 
 fn read_harmonic(name: &[u8], full: [u8; 16]) -> Reading

@@ -5,11 +5,11 @@ use mathlib.Core.Bool.{Bool, false, _&&_, cond}
 use mathlib.Core.List.{List, [], _∷_}
 use lib.Dec.{leb, ltb, eqb}
 use lib.ListN.{length, take, drop}
-use lib.Ieee.{Float}
 use Rattle.float.specs.Float.{#0, isFinite}
 use Rattle.sequence.specs.Sequence.{every}
 use Rattle.terms.specs.Names.{readTerm}
 use Rattle.terms.specs.Questions.{ask, firstNo}
+use Rattle.design.specs.Design.{freeCount}
 use Rattle.solver.specs.declared.IterOptions.{IterOptions}
 use Rattle.validate.specs.Call.{Lent, Sizes}
 use Rattle.validate.specs.declared.Asked.{Asked}

@@ -2,13 +2,12 @@
 // questions 11 to 13.
 
 ghost use mathlib.Core.Path.{_≡_};
-ghost use mathlib.Core.Bool.{_&&_};
 ghost use Prim.Native.Nat.{_*_, _≤_};
 ghost use lib.Dec.{ltb};
 ghost use lib.ListN.{length};
 ghost use Rattle.sequence.specs.Sequence.{every};
 ghost use Rattle.validate.specs.Call.{lent, sizes};
-ghost use Rattle.validate.specs.Questions.{limits, counts, scratchNeeded, room, finiteInput, finiteOptions, codesKnown, namesNo, freeCount, asked, noOptions};
+ghost use Rattle.validate.specs.Questions.{limits, counts, scratchNeeded, room, finiteInput, finiteOptions, codesKnown, namesNo, asked, noOptions};
 use solver::IterOptions;
 
 // All questions passed, with the number of free terms, or the number of the first no.
@@ -184,19 +183,6 @@ pub fn names_refused(names: &[u8], m: usize) -> u8
     0
 }
 
-// How many flags are 0.
-pub fn free_count(fixed: &[u8]) -> usize
-    ensures { λ r. ⌜ r ≡ freeCount (now (fixed .entry)) ⌝ }
-{
-    let mut count = 0;
-    for i in 0..fixed.len() {
-        if fixed[i] == 0 {
-            count += 1;
-        }
-    }
-    count
-}
-
 // The questions in order. The buffers come in as their lengths alone, so that a refusal can't touch them.
 pub fn questions(
     names: &[u8],
@@ -267,7 +253,7 @@ pub fn questions(
     if m == 0 {
         return Asked::No(11);
     }
-    let free = free_count(fixed);
+    let free = design::free_count(fixed);
     if free == 0 {
         return Asked::No(12);
     }

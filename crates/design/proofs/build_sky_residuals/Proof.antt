@@ -1,6 +1,6 @@
 -- `design::build_sky_residuals` meets its contract. The invariant: the rows of the first i stars are filled. Assumes nothing.
 use Prim.Native.Nat.{ℕ, _≤_, _-_, _*_}
-use mathlib.Core.Path.{_≡_, refl, ap}
+use mathlib.Core.Path.{_≡_, refl}
 use mathlib.Core.List.{List, _++_}
 use lib.ListN.{length, drop, length-set}
 use lib.Ieee.{Float}

@@ -2,7 +2,6 @@
 use Prim.Native.Nat.{_*_}
 use native.Mathlib.Nat.{add-sub-cancel-left}
 use borrow.Author.Needs.{needs}
-use native.Mathlib.Omega.{arith}
 use Rattle.design.proofs.slope_at.Statement.{statement}
 use Rattle.design.proofs.slope_at.Tie as tie
 

@@ -1,7 +1,7 @@
 -- `design::subtract_from` meets its contract. The invariant: the first k of the run are combined. Assumes nothing.
 use Prim.Native.Nat.{_≤_, _-_}
 use mathlib.Core.Path.{_≡_, refl}
-use mathlib.Core.Logic.{inl, inr}
+use mathlib.Core.Logic.{inr}
 use native.Mathlib.Nat.{le-refl}
 use lib.ListN.{length, length-set}
 use lib.Ieee.{binary64, sub}

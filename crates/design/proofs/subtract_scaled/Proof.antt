@@ -1,8 +1,8 @@
 -- `design::subtract_scaled` meets its contract. The invariant: the first k of the run are combined. Assumes nothing.
 use Prim.Native.Nat.{_≤_, _-_}
-use mathlib.Core.Path.{_≡_, refl, _∙_}
+use mathlib.Core.Path.{_≡_, refl}
 use mathlib.Core.Logic.{inl, inr}
-use native.Mathlib.Nat.{le-antisymm, le-refl}
+use native.Mathlib.Nat.{le-refl}
 use lib.ListN.{length, length-set}
 use lib.Ieee.{Float}
 use Rattle.float.specs.Float.{_⊖_, _⊗_}
