@@ -4,7 +4,7 @@ use mathlib.Core.Bool.{Bool, cond}
 use lib.Ieee.{Float, binary64, ofBits, neg, lt}
 use Rattle.float.specs.Float.{_⊕_, _⊖_, _⊗_, _⊘_, #0, #1, abs}
 use Rattle.sqrt.specs.Sqrt.{sqrt}
-use Rattle.observation.specs.Sheet.{pairOf}
+use Rattle.observation.specs.Observation.{pairOf}
 use Rattle.observation.specs.declared.Point.{Point}
 use Rattle.observation.specs.declared.Pair.{Pair}
 use Rattle.equatorial.specs.declared.EquatorialTerm.{EquatorialTerm}
@@ -49,6 +49,7 @@ power x (suc n) = power x n ⊗ x
 abbrev pub scaled : Float → Point → Pair
 scaled scale p = pairOf (scale ⊗ flexureH p ⊘ sinAlt p) (scale ⊗ flexureD p ⊘ sinAlt p)
 
+-- a name gives n from 1 to 255
 abbrev pub txnOf : Point → ℕ → Pair
 txnOf p n = cond (small (sinAlt p)) (pairOf #0 #0) (scaled (power (tanZ (sinAlt p)) (n - 1)) p)
 
@@ -57,19 +58,19 @@ txnOf p n = cond (small (sinAlt p)) (pairOf #0 #0) (scaled (power (tanZ (sinAlt 
 abbrev pub dafOf : Point → Pair
 dafOf p = pairOf (neg (p .«sin_lat» ⊗ p .«tan_dec» ⊕ p .«cos_lat» ⊗ p .«cos_h»)) #0
 
-abbrev pub jacobianOf : EquatorialTerm → Point → Pair
-jacobianOf IH p = pairOf (neg #1) #0
-jacobianOf ID p = pairOf #0 (neg (p .pier))
-jacobianOf CH p = pairOf (neg (p .pier) ⊘ p .«cos_dec») #0
-jacobianOf NP p = pairOf (neg (p .pier) ⊗ p .«tan_dec») #0
-jacobianOf MA p = pairOf (p .«cos_h» ⊗ p .«tan_dec») (neg (p .«sin_h»))
-jacobianOf ME p = pairOf (neg (p .«sin_h») ⊗ p .«tan_dec») (neg (p .«cos_h»))
-jacobianOf TF p = tfOf p
-jacobianOf TX p = txOf p
-jacobianOf (TXN n) p = txnOf p n
-jacobianOf DAF p = dafOf p
-jacobianOf FO p = pairOf #0 (p .«cos_h»)
-jacobianOf HCES p = pairOf (p .«sin_h») #0
-jacobianOf HCEC p = pairOf (p .«cos_h») #0
-jacobianOf DCES p = pairOf #0 (p .«sin_dec»)
-jacobianOf DCEC p = pairOf #0 (p .«cos_dec»)
+abbrev pub equatorialJacobian : EquatorialTerm → Point → Pair
+equatorialJacobian IH p = pairOf (neg #1) #0
+equatorialJacobian ID p = pairOf #0 (neg (p .pier))
+equatorialJacobian CH p = pairOf (neg (p .pier) ⊘ p .«cos_dec») #0
+equatorialJacobian NP p = pairOf (neg (p .pier) ⊗ p .«tan_dec») #0
+equatorialJacobian MA p = pairOf (p .«cos_h» ⊗ p .«tan_dec») (neg (p .«sin_h»))
+equatorialJacobian ME p = pairOf (neg (p .«sin_h») ⊗ p .«tan_dec») (neg (p .«cos_h»))
+equatorialJacobian TF p = tfOf p
+equatorialJacobian TX p = txOf p
+equatorialJacobian (TXN n) p = txnOf p n
+equatorialJacobian DAF p = dafOf p
+equatorialJacobian FO p = pairOf #0 (p .«cos_h»)
+equatorialJacobian HCES p = pairOf (p .«sin_h») #0
+equatorialJacobian HCEC p = pairOf (p .«cos_h») #0
+equatorialJacobian DCES p = pairOf #0 (p .«sin_dec»)
+equatorialJacobian DCEC p = pairOf #0 (p .«cos_dec»)

@@ -2,8 +2,8 @@
 
 ghost use mathlib.Core.Path.{_≡_};
 ghost use Prim.Native.Nat.{_-_};
-ghost use Rattle.observation.specs.Sheet.{pairOf};
-ghost use Rattle.equatorial.specs.Equatorial.{jacobianOf, sinAlt, flexureH, flexureD, tfOf, txOf, txnOf, dafOf, power, atLeastZero};
+ghost use Rattle.observation.specs.Observation.{pairOf};
+ghost use Rattle.equatorial.specs.Equatorial.{equatorialJacobian, sinAlt, flexureH, flexureD, tfOf, txOf, txnOf, dafOf, power, atLeastZero};
 use observation::Pair;
 use observation::Point;
 
@@ -27,7 +27,7 @@ pub enum EquatorialTerm {
 
 impl EquatorialTerm {
     pub fn jacobian_equatorial(self, p: Point) -> Pair
-        ensures { λ r. ⌜ r ≡ jacobianOf self p ⌝ }
+        ensures { λ r. ⌜ r ≡ equatorialJacobian self p ⌝ }
     {
         match self {
             EquatorialTerm::IH => pair(-1.0, 0.0),

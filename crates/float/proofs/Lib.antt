@@ -1,4 +1,5 @@
 pub mod Zero
+pub mod Order
 pub mod Powers
 pub mod Fields
 pub mod Units

@@ -4,7 +4,6 @@ use mathlib.Core.List.{List}
 use lib.Ieee.{Float}
 use Rattle.sequence.specs.Sequence.{at}
 use Rattle.observation.specs.declared.Point.{Point}
-use Rattle.observation.specs.declared.Pair.{Pair}
 
 -- where sin k·h stands, for k = 1 to 9; cos k·h is the next number
 abbrev pub placeH : ℕ → ℕ
@@ -31,6 +30,3 @@ pointOf sheet sinLat cosLat pier =
       «cos_lat» = cosLat;
       pier = pier;
     }
-
-abbrev pub pairOf : Float → Float → Pair
-pairOf dh dd = record { dh = dh; dd = dd }

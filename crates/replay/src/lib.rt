@@ -1,5 +1,7 @@
 // What the programs that replay the oracle's answers share: records from standard input, and lines of counts.
 
+ghost use Prim.Native.Nat.{_<_};
+
 // Fills buf from standard input; false where the input ends before.
 pub fn next(buf: &mut [u8]) -> bool {
     io::read_full(libc::STDIN_FILENO, buf) == buf.len()
@@ -12,7 +14,13 @@ pub fn byte() -> u8 {
     b[0]
 }
 
-// One more, as a count of records never wraps.
+pub fn wide(b: u8) -> usize
+    ensures { λ r. ⌜ r < 256 ⌝ }
+{
+    b as usize
+}
+
+// One more: a count of records never wraps.
 pub fn more(n: u64) -> u64 {
     std::num::wrapping_add_u64(n, 1)
 }
@@ -21,19 +29,23 @@ pub fn write(text: &[u8]) {
     io::write_all(libc::STDOUT_FILENO, text);
 }
 
-// A label, a space and a number.
-pub fn line(label: &[u8], n: u64) {
-    write(label);
+// A space and a number.
+pub fn number(n: u64) {
     write(b" ");
     io::print_decimal(libc::STDOUT_FILENO, n);
+}
+
+// A label and a number on a line.
+pub fn line(label: &[u8], n: u64) {
+    write(label);
+    number(n);
     write(b"\n");
 }
 
-// A question's number and how often it refused.
+// A question's number and how often it refused, on a line.
 pub fn refused(question: u64, n: u64) {
-    write(b"refused ");
-    io::print_decimal(libc::STDOUT_FILENO, question);
-    write(b" ");
-    io::print_decimal(libc::STDOUT_FILENO, n);
+    write(b"refused");
+    number(question);
+    number(n);
     write(b"\n");
 }

@@ -1,7 +1,7 @@
 -- A name as a number: the fixed names are found by it. Assumes nothing.
 use Prim.Native.Nat.{ℕ, _+_, _*_, _^_, _≤_, _<_}
 use native.Mathlib.Omega.{arith}
-use mathlib.Core.Path.{_≡_, refl, _∙_, sym}
+use mathlib.Core.Path.{_≡_, refl, _∙_, ap, sym}
 use mathlib.Core.Bool.{Bool, true, false, cond, _&&_}
 use mathlib.Core.List.{List, [], _∷_}
 use lib.ListN.{length, getD}
@@ -87,13 +87,18 @@ long (a ∷ b ∷ c ∷ d ∷ e ∷ n) p h =
     omega arith
 
 -- the fixed names are found by the number of at most four bytes
-pub by-key : (n : List ℕ) → every byte n ≡ true → lookup (keyed fixedNames) Known.Other (keyOf n) ≡ find fixedNames n
+by-key : (n : List ℕ) → every byte n ≡ true → lookup (keyed fixedNames) Known.Other (keyOf n) ≡ find fixedNames n
 by-key n p = by (leb (length n) 4) refl
   where
     by : (t : Bool) → leb (length n) 4 ≡ t → lookup (keyed fixedNames) Known.Other (cond t (packed n) 0) ≡ find fixedNames n
     by true e = sym (find-packed fixedNames n p refl)
     by false e = sym (find-packed fixedNames n p refl ∙ beyond (keyed fixedNames) (256 ^ 4) (packed n) refl (long n p (leb-false (length n) 4 e)))
 
+-- what the code finds by the number
+pub known-is : (n : List ℕ) (k : ℕ) (r : Known) → every byte n ≡ true → k ≡ keyOf n → r ≡ lookup (keyed fixedNames) Known.Other k → find fixedNames n ≡ r
+known-is n k r p q e = sym (e ∙ ap (lookup (keyed fixedNames) Known.Other) q ∙ by-key n p)
+
+-- the number, from the first four bytes of the padded name
 pub packed-is : (n : List ℕ) → length n ≤ 4
     → getD (padded n) 0 0 + 256 * getD (padded n) 1 0 + 65536 * getD (padded n) 2 0 + 16777216 * getD (padded n) 3 0 ≡ packed n
 packed-is [] h = refl

@@ -13,6 +13,7 @@ use Rattle.harmonic.specs.Table.{ascii}
 use Rattle.harmonic.specs.Harmonic.{digit, arrayOf, parseHarmonic}
 use Rattle.harmonic.specs.declared.Components.{Components}
 use Rattle.harmonic.specs.declared.HarmonicRead.{HarmonicRead}
+use Rattle.terms.specs.Questions.{ask, firstNo}
 use Rattle.terms.specs.declared.TermKind.{TermKind}
 use Rattle.terms.specs.declared.Reading.{Reading}
 use Rattle.terms.specs.declared.names.Known.{Known}
@@ -68,11 +69,27 @@ entry s k = record { name = ascii s; known = k }
 
 abbrev pub fixedNames : List Entry
 fixedNames =
-    entry "IH" (Equatorial IH) ∷ entry "ID" (Equatorial ID) ∷ entry "CH" (Equatorial CH) ∷ entry "NP" (Equatorial NP) ∷
-    entry "MA" (Equatorial MA) ∷ entry "ME" (Equatorial ME) ∷ entry "TF" (Equatorial TF) ∷ entry "TX" (Equatorial TX) ∷
-    entry "DAF" (Equatorial DAF) ∷ entry "FO" (Equatorial FO) ∷ entry "HCES" (Equatorial HCES) ∷
-    entry "HCEC" (Equatorial HCEC) ∷ entry "DCES" (Equatorial DCES) ∷ entry "DCEC" (Equatorial DCEC) ∷ entry "IA" AltAz ∷
-    entry "IE" AltAz ∷ entry "CA" AltAz ∷ entry "NPAE" AltAz ∷ entry "AN" AltAz ∷ entry "AW" AltAz ∷ []
+    entry "IH" (Equatorial IH) ∷
+    entry "ID" (Equatorial ID) ∷
+    entry "CH" (Equatorial CH) ∷
+    entry "NP" (Equatorial NP) ∷
+    entry "MA" (Equatorial MA) ∷
+    entry "ME" (Equatorial ME) ∷
+    entry "TF" (Equatorial TF) ∷
+    entry "TX" (Equatorial TX) ∷
+    entry "DAF" (Equatorial DAF) ∷
+    entry "FO" (Equatorial FO) ∷
+    entry "HCES" (Equatorial HCES) ∷
+    entry "HCEC" (Equatorial HCEC) ∷
+    entry "DCES" (Equatorial DCES) ∷
+    entry "DCEC" (Equatorial DCEC) ∷
+    entry "IA" AltAz ∷
+    entry "IE" AltAz ∷
+    entry "CA" AltAz ∷
+    entry "NPAE" AltAz ∷
+    entry "AN" AltAz ∷
+    entry "AW" AltAz ∷
+    []
 
 abbrev pub find : List Entry → List ℕ → Known
 find [] n = Other
@@ -84,7 +101,7 @@ find (e ∷ t) n = cond (same n (e .name)) (e .known) (find t n)
 unfoldable pub digitsFrom : ℕ → List ℕ → Option ℕ
 digitsFrom v [] = some v
 digitsFrom v (c ∷ s) =
-    let rest = digitsFrom (v * 10 + (c - 48)) s in
+    let rest = digitsFrom (v * 10 + (c - code "0")) s in
     cond (digit c) rest none
 
 -- Rust's parse of an unsigned number: a + may stand in front, and there is at least one digit
@@ -96,8 +113,8 @@ unsigned (c ∷ d ∷ s) = cond (eqb c (code "+")) (digitsFrom 0 (d ∷ s)) (dig
 -- the decimal digits of a number below 1,000
 abbrev pub decimal : ℕ → List ℕ
 decimal v =
-    cond (ltb v 10) ((48 + v) ∷ [])
-    (cond (ltb v 100) ((48 + v / 10) ∷ (48 + v % 10) ∷ []) ((48 + v / 100) ∷ (48 + v / 10 % 10) ∷ (48 + v % 10) ∷ []))
+    cond (ltb v 10) ((code "0" + v) ∷ [])
+    (cond (ltb v 100) ((code "0" + v / 10) ∷ (code "0" + v % 10) ∷ []) ((code "0" + v / 100) ∷ (code "0" + v / 10 % 10) ∷ (code "0" + v % 10) ∷ []))
 
 abbrev pub numbered : Option ℕ → Reading
 numbered none = refused 9
@@ -113,7 +130,7 @@ readHarmonic n = harmonicOf n (parseHarmonic n)
 
 -- ---- the whole
 
--- a name in capitals, by what it is among the fixed names: TX and a number, then names that begin with H
+-- a name in capitals, by what it is among the fixed names (question 8); where it is none of them, TX and a number, or a name that begins with H (9 and 10)
 unfoldable pub byKnown : List ℕ → Known → Reading
 byKnown n (Equatorial t) = accepted (TermKind.Equatorial t) n (arrayOf [])
 byKnown n AltAz = refused 8
@@ -121,8 +138,11 @@ byKnown n Other =
     cond (eqb (getD n 0 0) (code "T") && eqb (getD n 1 0) (code "X")) (numbered (unsigned (drop 2 n)))
     (cond (eqb (getD n 0 0) (code "H")) (readHarmonic n) (refused 9))
 
--- question 2, question 7, and 8 to 10 of the name in capitals
+-- question 2, question 7, and questions 8 to 10 of the name in capitals
 unfoldable pub readTerm : List ℕ → Reading
 readTerm slot =
     let n = map capital (nameOf slot) in
-    cond (eqb (length slot) 16) (cond (wellFormed slot) (byKnown n (find fixedNames n)) (refused 7)) (refused 2)
+    firstNo refused (byKnown n (find fixedNames n))
+    (ask (eqb (length slot) 16) 2 ∷
+    ask (wellFormed slot) 7 ∷
+    [])

@@ -24,11 +24,13 @@ pub enum Known {
     Other,
 }
 
+// A number, where its digits are well formed.
 pub enum NumberRead {
     Value(usize),
     Malformed,
 }
 
+// The answer that carries a blank term.
 pub fn refuse(number: u8) -> Reading
     ensures { λ r. ⌜ r ≡ refused number ⌝ }
 {
@@ -45,6 +47,7 @@ pub fn refuse(number: u8) -> Reading
     }
 }
 
+// The answer for a name that is read.
 fn accept(kind: TermKind, name: [u8; 16], components: Components) -> Reading
     ensures { λ r. ⌜ r ≡ answer 0 kind name components ⌝ }
 {
@@ -95,6 +98,7 @@ pub fn zeros_only(s: &[u8]) -> bool
     true
 }
 
+// An ASCII letter's capital; any other byte is itself.
 fn to_capital(b: u8) -> u8
     ensures { λ r. ⌜ r ≡ capital b ⌝ }
 {
@@ -106,6 +110,7 @@ fn to_capital(b: u8) -> u8
     b
 }
 
+// The slot in capitals.
 pub fn capitals(slot: &[u8]) -> [u8; 16]
     requires { ⌜ length (now slot) ≡ 16 ⌝ }
     ensures { λ r. ⌜ r ≡ map capital (now (slot .entry)) ⌝ }
@@ -123,54 +128,37 @@ fn wide(b: u8) -> u64
     b as u64
 }
 
+// A fixed name by its number, which is its bytes, the first lowest.
 fn fixed_name(key: u64) -> Known
     ensures { λ r. ⌜ r ≡ lookup (keyed fixedNames) Known.Other key ⌝ }
 {
     match key {
-        // IH
         0x4849 => Known::Equatorial(EquatorialTerm::IH),
-        // ID
         0x4449 => Known::Equatorial(EquatorialTerm::ID),
-        // CH
         0x4843 => Known::Equatorial(EquatorialTerm::CH),
-        // NP
         0x504e => Known::Equatorial(EquatorialTerm::NP),
-        // MA
         0x414d => Known::Equatorial(EquatorialTerm::MA),
-        // ME
         0x454d => Known::Equatorial(EquatorialTerm::ME),
-        // TF
         0x4654 => Known::Equatorial(EquatorialTerm::TF),
-        // TX
         0x5854 => Known::Equatorial(EquatorialTerm::TX),
-        // DAF
         0x464144 => Known::Equatorial(EquatorialTerm::DAF),
-        // FO
         0x4f46 => Known::Equatorial(EquatorialTerm::FO),
-        // HCES
         0x53454348 => Known::Equatorial(EquatorialTerm::HCES),
-        // HCEC
         0x43454348 => Known::Equatorial(EquatorialTerm::HCEC),
-        // DCES
         0x53454344 => Known::Equatorial(EquatorialTerm::DCES),
-        // DCEC
         0x43454344 => Known::Equatorial(EquatorialTerm::DCEC),
-        // IA
+        // IA, IE, CA, NPAE, AN, AW
         0x4149 => Known::AltAz,
-        // IE
         0x4549 => Known::AltAz,
-        // CA
         0x4143 => Known::AltAz,
-        // NPAE
         0x4541504e => Known::AltAz,
-        // AN
         0x4e41 => Known::AltAz,
-        // AW
         0x5741 => Known::AltAz,
         _ => Known::Other,
     }
 }
 
+// A name's number; 0 for one longer than the fixed names.
 fn key_of(name: &[u8], full: [u8; 16]) -> u64
     requires { ⌜ Clean (now name) full ⌝ }
     ensures { λ r. ⌜ r ≡ keyOf (now (name .entry)) ⌝ }
@@ -222,6 +210,7 @@ fn read_unsigned(s: &[u8]) -> NumberRead
     read_digits(s)
 }
 
+// TX and the number's decimal digits.
 fn txn_name(v: usize) -> [u8; 16]
     requires { ⌜ v < 256 ⌝ }
     ensures { λ r. ⌜ r ≡ padded (ascii "TX" ++ decimal v) ⌝ }
@@ -244,6 +233,7 @@ fn txn_name(v: usize) -> [u8; 16]
     out
 }
 
+// TX and a number from 1 to 255.
 fn numbered_term(number: NumberRead) -> Reading
     ensures { λ r. ⌜ r ≡ numberedRead number ⌝ }
 {
@@ -263,6 +253,7 @@ fn numbered_term(number: NumberRead) -> Reading
     )
 }
 
+// A name that begins with H.
 fn read_harmonic(name: &[u8], full: [u8; 16]) -> Reading
     requires { ⌜ Clean (now name) full ⌝ }
     ensures { λ r. ⌜ r ≡ readHarmonic (now (name .entry)) ⌝ }
@@ -294,6 +285,7 @@ fn other_term(name: &[u8], full: [u8; 16]) -> Reading
     refuse(9)
 }
 
+// The term that a name in capitals names; full is the name with zeros behind.
 pub fn create_term(name: &[u8], full: [u8; 16]) -> Reading
     requires { ⌜ Clean (now name) full ⌝ }
     ensures { λ r. ⌜ r ≡ byKnown (now (name .entry)) (find fixedNames (now (name .entry))) ⌝ }

@@ -1,10 +1,7 @@
 -- `equatorial::txn` meets its contract. Assumes nothing.
-use Prim.Native.Nat.{_-_}
-use mathlib.Core.Path.{_≡_}
-use mathlib.Core.Bool.{true, false}
 use Rattle.float.specs.Float.{_⊗_, _⊘_}
-use Rattle.observation.specs.Sheet.{pairOf}
-use Rattle.equatorial.specs.Equatorial.{small, sinAlt, tanZ, power}
+use Rattle.observation.specs.Observation.{pairOf}
+use Rattle.equatorial.proofs.Zenith.{small-is, scale-is}
 use borrow.Author.Needs.{needs}
 use Rattle.equatorial.proofs.txn.Statement.{statement}
 use Rattle.equatorial.proofs.txn.Tie as tie
@@ -17,8 +14,7 @@ abs-requires c κs = search needs
 
 returns : tie.Need-returns
 returns c =
-    let is-small : small (sinAlt (c .before .before .before .args .p)) ≡ true = cc in
-    rw is-small
+    rw (small-is (c .before .before .before .args .p) _ (c .before .before .sin-altitude .ensures) _ _ (c .before .abs .ensures) (c .if1 .taken))
 
 at-least-zero-requires : tie.Need-at-least-zero-requires
 at-least-zero-requires c κs = search needs
@@ -37,12 +33,22 @@ flexure-requires c κs = search needs
 
 returns-2 : tie.Need-returns-2
 returns-2 c =
-    let a = c .before .before .before .before .before .before .before .before .before .before .args in
-    let not-small : small (sinAlt (a .p)) ≡ false = cc in
-    let scale : c .before .before .before .pow .result ≡ power (tanZ (sinAlt (a .p))) (a .n - 1) = cc in
-    let flexed = c .before .before .flexure .ensures in
-    let altitude = c .before .before .before .before .before .before .before .before .before .sin-altitude .ensures in
-    rw not-small (λ i. pairOf (scale i ⊗ flexed i .dh ⊘ altitude i) (scale i ⊗ flexed i .dd ⊘ altitude i))
+    let at-flexure = c .before .before in
+    let at-pow = at-flexure .before in
+    let at-less-one = at-pow .before in
+    let at-sqrt = at-less-one .before in
+    let at-at-least-zero = at-sqrt .before in
+    let at-if1 = at-at-least-zero .before in
+    let at-abs = at-if1 .before in
+    let at-sin-altitude = at-abs .before in
+    let start = at-sin-altitude .before in
+    let a = start .args in
+    let altitude = at-sin-altitude .sin-altitude .ensures in
+    let scale =
+    scale-is (a .p) _ altitude (a .n) _ _ _ _ (at-at-least-zero .at-least-zero .ensures) (at-sqrt .sqrt .ensures) (at-less-one .less-one .ensures) (at-pow .pow .ensures) in
+    let flexed = at-flexure .flexure .ensures in
+    rw (small-is (a .p) _ altitude _ _ (at-abs .abs .ensures) (at-if1 .if1 .left))
+    (λ i. pairOf (scale i ⊗ flexed i .dh ⊘ altitude i) (scale i ⊗ flexed i .dd ⊘ altitude i))
 
 pub txn-spec : {M : Type 1} → statement M
 txn-spec =

@@ -21,7 +21,10 @@ accept-requires c κs = search needs
 returns-2 : tie.Need-returns-2
 unfolding readHarmonic
 returns-2 c =
-    rw (← c .before .before .before .before .parse-harmonic .ensures, not-false (c .before .before .before .before .parse-harmonic .result .ok) (c .before .before .if1 .left), ← c .before .before .before .before .before .before .pre .full-is) (c .accept .ensures)
+    let at-if1 = c .before .before in
+    let at-parse-harmonic = at-if1 .before .before in
+    let start = at-parse-harmonic .before .before in
+    rw (← at-parse-harmonic .parse-harmonic .ensures, not-false (at-parse-harmonic .parse-harmonic .result .ok) (at-if1 .if1 .left), ← start .pre .full-is) (c .accept .ensures)
 
 pub read-harmonic-spec : {M : Type 1} → statement M
 read-harmonic-spec =

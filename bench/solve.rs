@@ -1,0 +1,254 @@
+//! The solver of the static library beside plain Rust, both built for release: equal in every bit,
+//! and timed in the same run.
+mod plain;
+
+use plain::{Columns, SolveOutcome};
+use std::time::Instant;
+
+#[repr(C)]
+struct Sweeps {
+    made: usize,
+    settled: bool,
+}
+
+/// `linalg::SolveOutcome`, whose arrays have zeros past the columns.
+#[repr(C)]
+struct Outcome {
+    x: [f64; 32],
+    cov_diag: [f64; 32],
+    rank: usize,
+    sigma_max: f64,
+    sigma_min: f64,
+    sweeps: usize,
+    settled: bool,
+}
+
+// The Rattle calls are proved under conditions on the lengths, which `Lent` sees to.
+extern "C" {
+    fn pointing_factorise(w: *mut f64, len: usize, h: usize, rows: usize, m: usize) -> Sweeps;
+    fn pointing_solve_damped(
+        w: *mut f64,
+        w_len: usize,
+        h: usize,
+        rows: usize,
+        m: usize,
+        b: *const f64,
+        b_len: usize,
+        lambda: f64,
+        fit_tol: f64,
+        leverage: *mut f64,
+        leverage_len: usize,
+    ) -> Outcome;
+}
+
+/// The columns of a matrix as the library takes them: one after the other, h numbers each.
+struct Lent {
+    w: Vec<f64>,
+    h: usize,
+    rows: usize,
+    m: usize,
+}
+
+impl Lent {
+    fn new(a: &Columns) -> Lent {
+        let (rows, m) = (a[0].len(), a.len());
+        let h = rows + 2 * m;
+        let mut w = vec![7.0; h * m + 3];
+        for (j, column) in a.iter().enumerate() {
+            w[j * h..j * h + rows].copy_from_slice(column);
+        }
+        Lent { w, h, rows, m }
+    }
+
+    /// The columns with those of the identity below them.
+    fn with_identity(a: &Columns) -> Lent {
+        let mut lent = Lent::new(a);
+        for (j, column) in plain::identity(lent.m).iter().enumerate() {
+            let from = j * lent.h + lent.rows;
+            lent.w[from..from + lent.m].copy_from_slice(column);
+        }
+        lent
+    }
+
+    fn factorise(&mut self) -> Sweeps {
+        let (w, len) = (self.w.as_mut_ptr(), self.w.len());
+        unsafe { pointing_factorise(w, len, self.h, self.rows, self.m) }
+    }
+
+    fn solve_damped(&mut self, b: &[f64], lambda: f64, fit_tol: f64, lev: &mut [f64]) -> Outcome {
+        assert!(b.len() <= self.rows && lev.len() <= self.rows);
+        unsafe {
+            pointing_solve_damped(
+                self.w.as_mut_ptr(),
+                self.w.len(),
+                self.h,
+                self.rows,
+                self.m,
+                b.as_ptr(),
+                b.len(),
+                lambda,
+                fit_tol,
+                lev.as_mut_ptr(),
+                lev.len(),
+            )
+        }
+    }
+}
+
+/// Xorshift: the same numbers in every run.
+struct Random(u64);
+
+impl Random {
+    fn bits(&mut self) -> u64 {
+        self.0 ^= self.0 << 13;
+        self.0 ^= self.0 >> 7;
+        self.0 ^= self.0 << 17;
+        self.0
+    }
+
+    fn half(&mut self) -> f64 {
+        (self.bits() >> 11) as f64 / (1u64 << 53) as f64 - 0.5
+    }
+
+    /// Zeros, and more seldom values that overflow, underflow or are no numbers.
+    fn odd(&mut self, k: u64) -> f64 {
+        let edge = [
+            f64::INFINITY,
+            f64::NAN,
+            1e308,
+            -1e308,
+            5e-324,
+            -f64::INFINITY,
+        ];
+        let b = self.bits();
+        match (k + b) % 9 {
+            0 => 0.0,
+            1 => -0.0,
+            2 if k % 5 == 0 => f64::from_bits(b),
+            3 if k % 7 == 0 => 1e200 * (b % 7) as f64,
+            4 if k % 13 == 0 => edge[(b % 6) as usize],
+            _ => (b >> 40) as f64 / 1e6 - 8.0,
+        }
+    }
+}
+
+fn same(x: f64, y: f64) -> bool {
+    x.to_bits() == y.to_bits() || (x.is_nan() && y.is_nan())
+}
+
+fn all_same(x: &[f64], y: &[f64]) -> bool {
+    x.len() == y.len() && x.iter().zip(y).all(|(&p, &q)| same(p, q))
+}
+
+fn assert_same(ours: &Outcome, leverage: &[f64], plain: &SolveOutcome, case: &str) {
+    let m = plain.x.len();
+    let numbers = all_same(&ours.x[..m], &plain.x)
+        && all_same(&ours.cov_diag[..m], &plain.cov_diag)
+        && all_same(leverage, &plain.leverage[..leverage.len()])
+        && same(ours.sigma_max, plain.sigma_max)
+        && same(ours.sigma_min, plain.sigma_min);
+    let rest = ours.x[m..].iter().chain(&ours.cov_diag[m..]);
+    let counts =
+        (ours.rank, ours.sweeps, ours.settled) == (plain.rank, plain.sweeps, plain.settled);
+    assert!(
+        numbers && counts && rest.into_iter().all(|x| x.to_bits() == 0),
+        "{case}"
+    );
+}
+
+fn seconds(work: impl FnOnce()) -> f64 {
+    let start = Instant::now();
+    work();
+    start.elapsed().as_secs_f64()
+}
+
+fn report(what: &str, rows: usize, m: usize, sweeps: usize, plain: f64, ours: f64) {
+    println!(
+        "{what} {rows} x {m}, {sweeps} sweeps: plain Rust {:.1} us, Rattle {:.1} us, {:.2} times as fast",
+        plain * 1e6,
+        ours * 1e6,
+        plain / ours
+    );
+}
+
+/// The least times of a number of runs, of the factorisation and of the damped solve.
+fn time(random: &mut Random, rows: usize, m: usize, runs: usize) {
+    let a: Columns = (0..m)
+        .map(|_| (0..rows).map(|_| random.half()).collect())
+        .collect();
+    let b: Vec<f64> = (0..rows).map(|_| random.half()).collect();
+    let (mut factorise, mut solve) = ((f64::MAX, f64::MAX), (f64::MAX, f64::MAX));
+    let (mut sweeps, mut damped_sweeps) = (0, 0);
+    for _ in 0..runs {
+        let (mut u, mut v) = (a.clone(), plain::identity(m));
+        let mut lent = Lent::with_identity(&a);
+        let mut made = (0, false);
+        factorise.0 = factorise
+            .0
+            .min(seconds(|| made = plain::factorise(&mut u, &mut v)));
+        let mut ours = Sweeps {
+            made: 0,
+            settled: false,
+        };
+        factorise.1 = factorise.1.min(seconds(|| ours = lent.factorise()));
+        assert_eq!(made, (ours.made, ours.settled));
+        for j in 0..m {
+            let column = &lent.w[j * lent.h..];
+            assert!(all_same(&column[..rows], &u[j]) && all_same(&column[rows..rows + m], &v[j]));
+        }
+        sweeps = made.0;
+
+        let mut lent = Lent::new(&a);
+        let mut leverage = vec![9.0; rows];
+        let (mut plain, mut ours) = (None, None);
+        solve.0 = solve.0.min(seconds(|| {
+            plain = Some(plain::solve_damped(&a, &b, 1e-3, 1e-12))
+        }));
+        solve.1 = solve.1.min(seconds(|| {
+            ours = Some(lent.solve_damped(&b, 1e-3, 1e-12, &mut leverage))
+        }));
+        let (plain, ours) = (plain.unwrap(), ours.unwrap());
+        assert_same(&ours, &leverage, &plain, "timed");
+        damped_sweeps = ours.sweeps;
+    }
+    report("factorise   ", rows, m, sweeps, factorise.0, factorise.1);
+    report("solve_damped", rows, m, damped_sweeps, solve.0, solve.1);
+}
+
+/// Many small systems with zero and equal columns and values at the edges of the format.
+fn compare(random: &mut Random, cases: u64) {
+    let (mut nans, mut deficient) = (0, 0);
+    for k in 0..cases {
+        let m = 1 + (random.bits() % 7) as usize;
+        let rows = m + (random.bits() % 12) as usize;
+        let mut a: Columns = (0..m)
+            .map(|_| (0..rows).map(|_| random.odd(k)).collect())
+            .collect();
+        if m > 1 && k % 3 == 0 {
+            a[m - 1] = a[0].clone();
+        }
+        if k % 11 == 0 {
+            a[0] = vec![0.0; rows];
+        }
+        let b: Vec<f64> = (0..rows).map(|_| random.odd(k)).collect();
+        let lambda = [0.0, -1.0, 1e-4, 3.0, f64::NAN, 1e9][(k % 6) as usize];
+        let fit_tol = [0.0, 1e-10, 1e-3, -1.0][(k % 4) as usize];
+        let plain = plain::solve_damped(&a, &b, lambda, fit_tol);
+        let mut leverage = vec![9.0; rows];
+        let ours = Lent::new(&a).solve_damped(&b, lambda, fit_tol, &mut leverage);
+        assert_same(&ours, &leverage, &plain, &format!("case {k}"));
+        nans += plain.x.iter().any(|x| x.is_nan()) as u32;
+        deficient += (plain.rank < m) as u32;
+    }
+    println!(
+        "solve_damped equal in {cases} systems, {nans} with a NaN in x, {deficient} rank deficient"
+    );
+}
+
+fn main() {
+    let mut random = Random(88172645463325252);
+    for (rows, m, runs) in [(2048, 32, 20), (200, 16, 1000), (40, 6, 20000)] {
+        time(&mut random, rows, m, runs);
+    }
+    compare(&mut random, 20000);
+}

@@ -1,0 +1,298 @@
+// `solve_damped` and `solve_and_covariance` of linalg.rs: columns scaled, decomposed by one-sided
+// Jacobi, small singular values left out. A matrix lies in a lent slice w, column after column, h
+// numbers each: its rows, the m of V below them, and whatever else the column has room for.
+
+ghost use mathlib.Core.Path.{_≡_};
+ghost use Prim.Native.Nat.{_+_, _*_, _≤_, _<_};
+ghost use lib.ListN.{length};
+ghost use Rattle.sequence.specs.Sequence.{table};
+ghost use Rattle.order.specs.Order.{ordered};
+ghost use Rattle.column.specs.Column.{extended};
+ghost use Rattle.linalg.specs.Linalg.{Taken, Placed, entry as entryOf, threshold as thresholdOf, inverses as inversesOf, rankTo, projected, xScaled, solution as solutionOf, scaledVariance as scaledVarianceOf, covariance as covarianceOf, leverageOf, decomposed, answered, solved, solvedDamped};
+
+// The Rust's record, with zeros past the m columns, how many sweeps the factorisation made and
+// whether the last had no turn. The leverage, a number a row, goes to a lent slice.
+#[repr(C)]
+pub struct SolveOutcome {
+    pub x: [f64; 32],
+    pub cov_diag: [f64; 32],
+    pub rank: usize,
+    pub sigma_max: f64,
+    pub sigma_min: f64,
+    pub sweeps: usize,
+    pub settled: bool,
+}
+
+// The norms of A's columns, the singular values as the columns lie, and how the sweeps ended.
+struct Factors {
+    pub norms: [f64; 32],
+    pub values: [f64; 32],
+    pub made: usize,
+    pub settled: bool,
+}
+
+// The inverses of the singular values above the threshold, in their order, and how many there are.
+struct Inverses {
+    pub inv_s: [f64; 32],
+    pub rank: usize,
+}
+
+// A in the first rows is scaled and becomes U, with V below it.
+fn decompose(w: &mut [f64], h: usize, rows: usize, m: usize) -> Factors
+    requires { ⌜ (m ≤ 32) × (rows + m ≤ h) × (m * h ≤ length (now w)) ⌝ }
+    ensures { λ r. ⌜ record { norms = r .norms; w = now (w .exit); values = r .values; made = r .made; settled = r .settled } ≡ decomposed h rows m (now (w .entry)) ⌝ }
+{
+    let norms = column::norms(w, h, rows, m);
+    column::scale_columns(w, h, rows, m, &norms);
+    column::diagonals(w, h, rows, m, 1.0);
+    let f = jacobi::factorise(w, h, rows, m);
+    let values = column::norms(w, h, rows, m);
+    column::unit_columns(w, h, rows, m, &values);
+    Factors {
+        norms,
+        values,
+        made: f.made,
+        settled: f.settled,
+    }
+}
+
+// A singular value counts where it is above this.
+fn threshold(fit_tol: f64, sigma_max: f64) -> f64
+    ensures { λ r. ⌜ r ≡ thresholdOf «fit_tol» «sigma_max» ⌝ }
+{
+    if fit_tol > 0.0 {
+        return fit_tol * sigma_max;
+    }
+    0.0
+}
+
+// inv_s and the rank.
+fn invert(s: &[f64; 32], o: &[usize], t: f64) -> Inverses
+    requires { ⌜ Taken (now o) ⌝ }
+    ensures { λ r. ⌜ r ≡ record { «inv_s» = inversesOf t (now (s .entry)) (now (o .entry)); rank = rankTo (length (now (o .entry))) t (now (s .entry)) (now (o .entry)) } ⌝ }
+{
+    let mut inv_s = [0.0; 32];
+    let mut rank = 0usize;
+    for i in 0..o.len() {
+        let v = s[o[i]];
+        if v > t {
+            inv_s[i] = 1.0 / v;
+            rank += 1;
+        } else {
+            inv_s[i] = 0.0;
+        }
+    }
+    Inverses { inv_s, rank }
+}
+
+// z = inv_s * (U^T b); b has zeros down to the last row.
+fn project(w: &[f64], h: usize, rows: usize, b: &[f64], o: &[usize], inv_s: &[f64; 32]) -> [f64; 32]
+    requires { ⌜ Placed h (now w) (now o) × (rows ≤ h) × (length (now b) ≤ rows) ⌝ }
+    ensures { λ r. ⌜ r ≡ projected h rows (now (w .entry)) (extended rows (now (b .entry))) (now (o .entry)) (now («inv_s» .entry)) ⌝ }
+{
+    let mut z = [0.0; 32];
+    for i in 0..o.len() {
+        let x = o[i] * h;
+        z[i] = inv_s[i] * column::dot(&w[x..x + rows], b);
+    }
+    z
+}
+
+// The number in row r of the column that is taken i-th.
+fn entry(w: &[f64], h: usize, o: &[usize], r: usize, i: usize) -> f64
+    requires { ⌜ Placed h (now w) (now o) × (r < h) × (i < length (now o)) ⌝ }
+    ensures { λ v. ⌜ v ≡ entryOf h (now (w .entry)) (now (o .entry)) r i ⌝ }
+{
+    w[o[i] * h + r]
+}
+
+// Row r of V, which begins below the rows of A, times z.
+fn x_scaled(w: &[f64], h: usize, o: &[usize], r: usize, z: &[f64; 32]) -> f64
+    requires { ⌜ Placed h (now w) (now o) × (r < h) ⌝ }
+    ensures { λ t. ⌜ t ≡ xScaled h (now (w .entry)) (now (o .entry)) (now (z .entry)) r ⌝ }
+{
+    let mut t = 0.0;
+    for i in 0..o.len() {
+        t = t + entry(w, h, o, r, i) * z[i];
+    }
+    t
+}
+
+// x = (V z) * col_scale.
+fn solution(
+    w: &[f64],
+    h: usize,
+    rows: usize,
+    o: &[usize],
+    z: &[f64; 32],
+    norms: &[f64; 32],
+) -> [f64; 32]
+    requires { ⌜ Placed h (now w) (now o) × (rows + length (now o) ≤ h) ⌝ }
+    ensures { λ r. ⌜ r ≡ solutionOf h rows (now (w .entry)) (now (o .entry)) (now (z .entry)) (now (norms .entry)) ⌝ }
+{
+    let mut x = [0.0; 32];
+    for j in 0..o.len() {
+        x[j] = x_scaled(w, h, o, rows + j, z) * column::scale(norms[j]);
+    }
+    x
+}
+
+// The sum of the squares of row r of V times inv_s, where that isn't 0.
+fn scaled_variance(w: &[f64], h: usize, o: &[usize], r: usize, inv_s: &[f64; 32]) -> f64
+    requires { ⌜ Placed h (now w) (now o) × (r < h) ⌝ }
+    ensures { λ t. ⌜ t ≡ scaledVarianceOf h (now (w .entry)) (now (o .entry)) (now («inv_s» .entry)) r ⌝ }
+{
+    let mut t = 0.0;
+    for i in 0..o.len() {
+        let s = inv_s[i];
+        if s != 0.0 {
+            let v = entry(w, h, o, r, i);
+            t = t + v * s * (v * s);
+        }
+    }
+    t
+}
+
+// The diagonal of the covariance, scaled back.
+fn covariance(
+    w: &[f64],
+    h: usize,
+    rows: usize,
+    o: &[usize],
+    inv_s: &[f64; 32],
+    norms: &[f64; 32],
+) -> [f64; 32]
+    requires { ⌜ Placed h (now w) (now o) × (rows + length (now o) ≤ h) ⌝ }
+    ensures { λ r. ⌜ r ≡ covarianceOf h rows (now (w .entry)) (now (o .entry)) (now («inv_s» .entry)) (now (norms .entry)) ⌝ }
+{
+    let mut d = [0.0; 32];
+    for j in 0..o.len() {
+        let s = column::scale(norms[j]);
+        d[j] = scaled_variance(w, h, o, rows + j, inv_s) * s * s;
+    }
+    d
+}
+
+// The leverage of row r: the sum of the squares of U's row where inv_s isn't 0.
+fn leverage(w: &[f64], h: usize, o: &[usize], r: usize, inv_s: &[f64; 32]) -> f64
+    requires { ⌜ Placed h (now w) (now o) × (r < h) ⌝ }
+    ensures { λ t. ⌜ t ≡ leverageOf h (now (w .entry)) (now (o .entry)) (now («inv_s» .entry)) r ⌝ }
+{
+    let mut t = 0.0;
+    for i in 0..o.len() {
+        let s = inv_s[i];
+        if s != 0.0 {
+            let u = entry(w, h, o, r, i);
+            t = t + u * u;
+        }
+    }
+    t
+}
+
+// The leverage of as many rows as are lent.
+fn leverages(w: &[f64], h: usize, o: &[usize], inv_s: &[f64; 32], out: &mut [f64])
+    requires { ⌜ Placed h (now w) (now o) × (length (now out) ≤ h) ⌝ }
+    ensures { λ _. ⌜ now (out .exit) ≡ table (length (now (out .entry))) (leverageOf h (now (w .entry)) (now (o .entry)) (now («inv_s» .entry))) ⌝ }
+{
+    for r in 0..out.len() {
+        out[r] = leverage(w, h, o, r, inv_s);
+    }
+}
+
+// The answer from a decomposition and the order o of its values.
+fn answer(
+    w: &[f64],
+    h: usize,
+    rows: usize,
+    b: &[f64],
+    fit_tol: f64,
+    d: Factors,
+    o: &[usize],
+    leverage: &mut [f64],
+) -> SolveOutcome
+    requires { ⌜ Placed h (now w) (now o) × (0 < length (now o)) × (rows + length (now o) ≤ h) × (length (now b) ≤ rows) × (length (now leverage) ≤ h) ⌝ }
+    ensures { λ r. ⌜ record { outcome = r; w = now (w .entry); leverage = now (leverage .exit) }
+        ≡ answered h rows (extended rows (now (b .entry))) «fit_tol» (length (now (leverage .entry))) (record { norms = d .norms; w = now (w .entry); values = d .values; made = d .made; settled = d .settled }) (now (o .entry)) ⌝ }
+{
+    let norms = d.norms;
+    let values = d.values;
+    let first = o[0];
+    let last = o[o.len() - 1];
+    let sigma_max = values[first];
+    let t = threshold(fit_tol, sigma_max);
+    let k = invert(&values, o, t);
+    let inv_s = k.inv_s;
+    let z = project(w, h, rows, b, o, &inv_s);
+    let x = solution(w, h, rows, o, &z, &norms);
+    let cov_diag = covariance(w, h, rows, o, &inv_s, &norms);
+    leverages(w, h, o, &inv_s, leverage);
+    SolveOutcome {
+        x,
+        cov_diag,
+        rank: k.rank,
+        sigma_max,
+        sigma_min: values[last],
+        sweeps: d.made,
+        settled: d.settled,
+    }
+}
+
+// The same with the order worked out in o, which has a place for each column.
+fn answer_in_order(
+    w: &[f64],
+    h: usize,
+    rows: usize,
+    b: &[f64],
+    fit_tol: f64,
+    d: Factors,
+    o: &mut [usize],
+    leverage: &mut [f64],
+) -> SolveOutcome
+    requires { ⌜ (0 < length (now o)) × (length (now o) ≤ 32) × (length (now o) * h ≤ length (now w)) × (rows + length (now o) ≤ h) × (length (now b) ≤ rows) × (length (now leverage) ≤ h) ⌝ }
+    ensures { λ r. ⌜ record { outcome = r; w = now (w .entry); leverage = now (leverage .exit) }
+        ≡ answered h rows (extended rows (now (b .entry))) «fit_tol» (length (now (leverage .entry))) (record { norms = d .norms; w = now (w .entry); values = d .values; made = d .made; settled = d .settled }) (ordered (length (now (o .entry))) (d .values)) ⌝ }
+{
+    let values = d.values;
+    order::order(&values, o);
+    answer(w, h, rows, b, fit_tol, d, o, leverage)
+}
+
+// A has its columns in w; b may be shorter than they are, and then stands for b with zeros below. The
+// columns end as those of U and V.
+pub fn solve_and_covariance(
+    w: &mut [f64],
+    h: usize,
+    rows: usize,
+    m: usize,
+    b: &[f64],
+    fit_tol: f64,
+    leverage: &mut [f64],
+) -> SolveOutcome
+    requires { ⌜ (0 < m) × (m ≤ 32) × (rows + m ≤ h) × (m * h ≤ length (now w)) × (length (now b) ≤ rows) × (length (now leverage) ≤ rows) ⌝ }
+    ensures { λ r. ⌜ record { outcome = r; w = now (w .exit); leverage = now (leverage .exit) } ≡ solved h rows m (now (w .entry)) (now (b .entry)) «fit_tol» (length (now (leverage .entry))) ⌝ }
+{
+    let d = decompose(w, h, rows, m);
+    let mut o = [0usize; 32];
+    answer_in_order(w, h, rows, b, fit_tol, d, &mut o[..m], leverage)
+}
+
+// The same with damping rows below the data rows, unless lambda <= 0.0; a NaN isn't.
+pub fn solve_damped(
+    w: &mut [f64],
+    h: usize,
+    rows: usize,
+    m: usize,
+    b: &[f64],
+    lambda: f64,
+    fit_tol: f64,
+    leverage: &mut [f64],
+) -> SolveOutcome
+    requires { ⌜ (0 < m) × (m ≤ 32) × (rows + m + m ≤ h) × (m * h ≤ length (now w)) × (length (now b) ≤ rows) × (length (now leverage) ≤ rows) ⌝ }
+    ensures { λ r. ⌜ record { outcome = r; w = now (w .exit); leverage = now (leverage .exit) } ≡ solvedDamped h rows m (now (w .entry)) (now (b .entry)) lambda «fit_tol» (length (now (leverage .entry))) ⌝ }
+{
+    if lambda <= 0.0 {
+        return solve_and_covariance(w, h, rows, m, b, fit_tol, leverage);
+    }
+    column::diagonals(w, h, rows, m, sqrt::sqrt(lambda));
+    solve_and_covariance(w, h, rows + m, m, b, fit_tol, leverage)
+}
