@@ -262,16 +262,7 @@ pub fn solve_and_covariance(
     let values = d.values;
     let order = in_order(&values, m);
     let v = &w[..];
-    answer(
-        &v[c..c + k],
-        h,
-        rows,
-        m,
-        &v[b..b + n],
-        fit_tol,
-        d,
-        order,
-    )
+    answer(&v[c..c + k], h, rows, m, &v[b..b + n], fit_tol, d, order)
 }
 
 // The same with damping rows below the data rows, unless lambda <= 0.0; a NaN isn't.

@@ -1,8 +1,8 @@
 -- What one term's turn leaves in the scratch, and the turns of the loops over the terms. Assumes nothing.
 use Prim.Native.Nat.{ℕ, _+_, _-_, _*_, _≤_, _<_}
 use native.Mathlib.Omega.{arith}
-use mathlib.Core.Path.{_≡_, refl, sym, ap, _∙_}
-use mathlib.Core.Bool.{Bool, true, false, cond}
+use mathlib.Core.Path.{_≡_, sym, ap, _∙_}
+use mathlib.Core.Bool.{true, false, cond}
 use mathlib.Core.List.{List, [], _∷_, _++_, zipWith, append-nil, append-assoc}
 use native.Mathlib.Numerals.{add-one}
 use lib.ListN.{length, take, drop, replicate}
@@ -30,9 +30,10 @@ combines f w w₁ w₂ a y n low room p e =
     let z = zipWith f (part w₁ y n) (part w₁ 0 n) in
     let count : length z ≡ n = length-zip-part f w₁ y 0 n (omega arith) (omega arith) in
     let is : part w₂ y n ≡ z = ap (λ (l : List Float). part l y n) e ∙ part-sets-same w₁ y n z count (omega arith) in
-    let last : Only 0 (y + n) w₁ w₂ = rw e (only-wider y n 0 (y + n) w₁ (sets w₁ y z) (omega arith) (omega arith) (only-sets w₁ y n z (omega arith))) in
-    (is ∙ ap (λ (l : List Float). zipWith f l (part w₁ 0 n)) old ∙ ap (zipWith f (part w y n)) (p .0),
-    only-then 0 (y + n) w w₁ w₂ (only-wider 0 n 0 (y + n) w w₁ (omega arith) (omega arith) (p .1)) last)
+    let last : Only 0 (y + n) w₁ w₂ = rw e (only-wider y n 0 (y + n) w₁ (sets w₁ y z) (omega arith) (omega arith) (only-sets w₁ y n z (omega arith))) in (
+      is ∙ ap (λ (l : List Float). zipWith f l (part w₁ 0 n)) old ∙ ap (zipWith f (part w y n)) (p .0),
+      only-then 0 (y + n) w w₁ w₂ (only-wider 0 n 0 (y + n) w w₁ (omega arith) (omega arith) (p .1)) last,
+    )
 
 -- ---- a loop whose turn j makes `step j` of what lies at y
 
@@ -60,9 +61,15 @@ module _ (y n : ℕ) (step : ℕ → List Float → List Float) where
 -- the n numbers from y on have been made zeros
 pub zeroed : (w ys : List Float) (y n : ℕ) → y + n ≤ length w → length ys ≡ length (take (y + n - y) (drop y w)) → ys ≡ replicate (length (take (y + n - y) (drop y w))) #0
     → (part (back w ys y n) y n ≡ replicate n #0) × Only 0 (y + n) w (back w ys y n)
-zeroed w ys y n room kept e =
-    (back-part w ys y n room kept ∙ e ∙ ap (λ (k : ℕ). replicate k #0) (length-cut w y n room),
-    only-wider y n 0 (y + n) w (back w ys y n) (omega arith) (omega arith) (back-only w ys y n room kept))
+zeroed w ys y n room kept e = (
+  back-part w ys y n room kept ∙ e ∙ ap (λ (k : ℕ). replicate k #0) (length-cut w y n room),
+  only-wider y n 0 (y + n) w (back w ys y n) (omega arith) (omega arith) (back-only w ys y n room kept),
+)
+
+-- a loop that began there
+pub from-zero : (y n m : ℕ) (step : ℕ → List Float → List Float) (w₀ w₁ w : List Float) → (part w₁ y n ≡ replicate n #0) × Only 0 (y + n) w₀ w₁
+    → (part w y n ≡ each m 0 step (part w₁ y n)) × Only 0 (y + n) w₁ w → (part w y n ≡ each m 0 step (replicate n #0)) × Only 0 (y + n) w₀ w
+from-zero y n m step w₀ w₁ w z t = (t .0 ∙ ap (each m 0 step) (z .0), only-then 0 (y + n) w₀ w₁ w (z .1) (t .1))
 
 -- ---- the free columns
 
@@ -82,9 +89,10 @@ deepened w w₁ ys a x n h low room p kept e =
     let only = back-only w₁ ys (x + n) (h - n) room₁ kept in
     let whole : n + (h - n) ≡ h = omega arith in
     let top : part v x n ≡ a = only .below x n (omega arith) ∙ p .0 in
-    let rest : part v (x + n) (h - n) ≡ replicate (h - n) #0 = back-part w₁ ys (x + n) (h - n) room₁ kept ∙ zeros in
-    (ap (λ (k : ℕ). part v x k) (sym whole) ∙ part-split v x n (h - n) ∙ ap (λ (r : List Float). r ++ part v (x + n) (h - n)) top ∙ ap (λ (r : List Float). a ++ r) rest,
-    only-then x h w w₁ v (only-wider x n x h w w₁ (omega arith) (omega arith) (p .1)) (only-wider (x + n) (h - n) x h w₁ v (omega arith) (omega arith) only))
+    let rest : part v (x + n) (h - n) ≡ replicate (h - n) #0 = back-part w₁ ys (x + n) (h - n) room₁ kept ∙ zeros in (
+      ap (λ (k : ℕ). part v x k) (sym whole) ∙ part-split v x n (h - n) ∙ ap (λ (r : List Float). r ++ part v (x + n) (h - n)) top ∙ ap (λ (r : List Float). a ++ r) rest,
+      only-then x h w w₁ v (only-wider x n x h w w₁ (omega arith) (omega arith) (p .1)) (only-wider (x + n) (h - n) x h w₁ v (omega arith) (omega arith) only),
+    )
 
 laid-snoc : (h : ℕ) (l : List (List Float)) (a : List Float) → laid h (l ++ (a ∷ [])) ≡ laid h l ++ (a ++ replicate (h - length a) #0)
 unfolding laid

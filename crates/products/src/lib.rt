@@ -5,7 +5,7 @@
 ghost use mathlib.Core.Path.{_≡_};
 ghost use mathlib.Core.Bool.{cond};
 ghost use mathlib.Core.List.{_++_};
-ghost use Prim.Native.Nat.{_+_, _-_, _*_, _≤_, _<_};
+ghost use Prim.Native.Nat.{_+_, _-_, _*_, _≤_};
 ghost use lib.ListN.{length, replicate};
 ghost use lib.Ieee.{eq};
 ghost use Rattle.float.specs.Float.{#0};
@@ -161,7 +161,7 @@ pub fn subtract_all_contributions(
     w: &mut [f64],
     y: usize,
 )
-    requires { ⌜ Held (now names) (now pier) (now sheets) × (length (now names) ≡ 16 *  length (now coefficients)) × (2 * length (now pier) ≤ y) × (y + 2 * length (now pier) ≤ length (now w)) ⌝ }
+    requires { ⌜ Held (now names) (now pier) (now sheets) × (length (now names) ≡ 16 * length (now coefficients)) × (2 * length (now pier) ≤ y) × (y + 2 * length (now pier) ≤ length (now w)) ⌝ }
     ensures { λ _. ⌜ (part (now (w .exit)) y (2 * length (now (pier .entry))) ≡ subtractAll (length (now (coefficients .entry))) (at (now (coefficients .entry))) (λ j. skyColumnTo «sin_lat» «cos_lat» (now (pier .entry)) (now (sheets .entry)) (termAt (now (names .entry)) j)) (part (now (w .entry)) y (2 * length (now (pier .entry)))))
         × Only 0 (y + 2 * length (now (pier .entry))) (now (w .entry)) (now (w .exit)) ⌝ }
 {
@@ -183,7 +183,7 @@ pub fn product(
     w: &mut [f64],
     y: usize,
 )
-    requires { ⌜ Held (now names) (now pier) (now sheets) × (m ≤ 32) × (length (now names) ≡ 16 *  m) × (2 * length (now pier) ≤ y) × (y + 2 * length (now pier) ≤ length (now w)) ⌝ }
+    requires { ⌜ Held (now names) (now pier) (now sheets) × (m ≤ 32) × (length (now names) ≡ 16 * m) × (2 * length (now pier) ≤ y) × (y + 2 * length (now pier) ≤ length (now w)) ⌝ }
     ensures { λ _. ⌜ (part (now (w .exit)) y (2 * length (now (pier .entry))) ≡ productOf (2 * length (now (pier .entry))) m (at (now (coefficients .entry))) (λ j. columnTo «sin_lat» «cos_lat» (now (pier .entry)) (now (sheets .entry)) (termAt (now (names .entry)) j)))
         × Only 0 (y + 2 * length (now (pier .entry))) (now (w .entry)) (now (w .exit)) ⌝ }
 {
@@ -207,7 +207,7 @@ pub fn free_product(
     w: &mut [f64],
     y: usize,
 )
-    requires { ⌜ Held (now names) (now pier) (now sheets) × (length (now fixed) ≤ 32) × (length (now names) ≡ 16 *  length (now fixed)) × (2 * length (now pier) ≤ y) × (y + 2 * length (now pier) ≤ length (now w)) ⌝ }
+    requires { ⌜ Held (now names) (now pier) (now sheets) × (length (now fixed) ≤ 32) × (length (now names) ≡ 16 * length (now fixed)) × (2 * length (now pier) ≤ y) × (y + 2 * length (now pier) ≤ length (now w)) ⌝ }
     ensures { λ _. ⌜ (part (now (w .exit)) y (2 * length (now (pier .entry))) ≡ freeProduct (2 * length (now (pier .entry))) (length (now (fixed .entry))) (now (fixed .entry)) (now (x .entry)) (λ j. skyColumnTo «sin_lat» «cos_lat» (now (pier .entry)) (now (sheets .entry)) (termAt (now (names .entry)) j)))
         × Only 0 (y + 2 * length (now (pier .entry))) (now (w .entry)) (now (w .exit)) ⌝ }
 {
@@ -235,7 +235,7 @@ pub fn free_columns(
     c: usize,
     h: usize,
 )
-    requires { ⌜ Held (now names) (now pier) (now sheets) × (length (now fixed) ≤ 32) × (length (now names) ≡ 16 *  length (now fixed)) × (2 * length (now pier) ≤ h) × (c + length (now fixed) * h ≤ length (now w)) ⌝ }
+    requires { ⌜ Held (now names) (now pier) (now sheets) × (length (now fixed) ≤ 32) × (length (now names) ≡ 16 * length (now fixed)) × (2 * length (now pier) ≤ h) × (c + length (now fixed) * h ≤ length (now w)) ⌝ }
     ensures { λ _. ⌜ (part (now (w .exit)) c (freeCount (now (fixed .entry)) * h) ≡ laid h (ofFree (now (fixed .entry)) (λ j. skyColumnTo «sin_lat» «cos_lat» (now (pier .entry)) (now (sheets .entry)) (termAt (now (names .entry)) j)) (length (now (fixed .entry)))))
         × Only c (length (now (fixed .entry)) * h) (now (w .entry)) (now (w .exit)) ⌝ }
 {

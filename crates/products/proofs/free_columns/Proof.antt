@@ -51,7 +51,10 @@ free-column-requires c κs = let u = c .before .before .before .before .loop in 
     (s .pre .0, omega arith, s .pre .3, omega (arith, ends (a .fixed .now) (u .k) (u .j) (a .h) few (omega arith)))
 
 add-k : tie.Need-add-k Inv-loop μ-loop
-add-k c = let u = c .before .before .before .before .before .before .before .loop in omega (arith, rw (u .inv .3 .count) (free-few (c .before .before .before .before .before .before .before .before .before .before .before .before .before .args .fixed .now) (u .j)))
+add-k c =
+    let u = c .before .before .before .before .before .before .before .loop in
+    let few : u .k ≤ u .j = rw (u .inv .3 .count) (free-few (c .before .before .before .before .before .before .before .before .before .before .before .before .before .args .fixed .now) (u .j)) in
+    omega arith
 
 add-j : tie.Need-add-j Inv-loop μ-loop
 add-j c = omega arith

@@ -8,13 +8,12 @@ use lib.Ieee.{Float}
 use mathlib.Core.Bool.{cond}
 use mathlib.Core.Logic.{inl, inr}
 use borrow.Author.Tests.{eq-eqb, ne-eqb}
-use lib.ListN.{replicate}
-use Rattle.float.specs.Float.{#0}
-use Rattle.sequence.specs.Sequence.{at}
+use Rattle.sequence.specs.Sequence.{at, part}
+use Rattle.sequence.proofs.Only.{only-none}
 use Rattle.design.specs.Design.{termAt, plus, isFree, freeBefore, freeProduct}
 use Rattle.design.specs.Filled.{skyColumnTo}
 use Rattle.design.proofs.Free.{free-none, free-next, taken-next, free-few}
-use Rattle.products.proofs.Laws.{zeroed, Turned, turned-none, turned-next, turned-still, turned-end}
+use Rattle.products.proofs.Laws.{zeroed, from-zero, Turned, turned-none, turned-next, turned-still, turned-end}
 use Rattle.products.proofs.free_product.Statement.{statement}
 use Rattle.products.proofs.free_product.Tie as tie
 
@@ -23,7 +22,7 @@ abbrev step : Float → Float → List ℕ → List ℕ → List Float → List 
 step sinLat cosLat names pier sheets fixed x j p = cond (isFree fixed j) (plus (at x (freeBefore fixed j)) p (skyColumnTo sinLat cosLat pier sheets (termAt names j))) p
 
 abbrev Inv-loop : tie.InvT-loop
-Inv-loop names fixed pier sheets sin-lat cos-lat x w₀ y n k₀ j₀ j-end w k j = (j-end ≡ length fixed) × (j ≤ j-end) × (length w ≡ length w₀) × (k ≡ freeBefore fixed j) × Turned w₀ y (2 * length pier) (replicate (2 * length pier) #0) (step sin-lat cos-lat names pier sheets fixed x) w j
+Inv-loop names fixed pier sheets sin-lat cos-lat x w₀ y n k₀ j₀ j-end w k j = (j-end ≡ length fixed) × (j ≤ j-end) × (length w ≡ length w₀) × (k ≡ freeBefore fixed j) × Turned w₀ y (2 * length pier) (part w₀ y (2 * length pier)) (step sin-lat cos-lat names pier sheets fixed x) w j
 
 abbrev μ-loop : tie.MeasureT-loop
 μ-loop names fixed pier sheets sin-lat cos-lat x w₀ y n k₀ j₀ j-end w k j = j-end - j
@@ -51,12 +50,9 @@ fill-requires c κs = omega arith
 
 loop-holds : tie.Need-loop-holds Inv-loop μ-loop
 loop-holds c =
-    let f = c .before .before in
-    let s = c .before .before .before .before .before .before .before .before .before in
-    let a = s .args in
+    let a = c .before .before .before .before .before .before .before .before .before .args in
     let n = 2 * length (a .pier .now) in
-    let z = zeroed (a .w .now) (f .fill .last .0) (a .y) n (s .pre .4) (f .fill .kept .0) (f .fill .ensures) in
-    (refl, omega arith, z .1 .long, free-none (a .fixed .now), turned-none (a .y) n (step (a .sin-lat) (a .cos-lat) (a .names .now) (a .pier .now) (a .sheets .now) (a .fixed .now) (a .x .now)) (a .w .now) _ (replicate n #0) (z .0) (z .1))
+    (refl, omega arith, refl, free-none (a .fixed .now), turned-none (a .y) n (step (a .sin-lat) (a .cos-lat) (a .names .now) (a .pier .now) (a .sheets .now) (a .fixed .now) (a .x .now)) _ _ _ refl (only-none 0 (a .y + n) _))
 
 shared-slice-read-if1 : tie.Need-shared-slice-read-if1 Inv-loop μ-loop
 shared-slice-read-if1 c = omega arith
@@ -89,10 +85,10 @@ loop-again c =
       | inl v ↦
           let free = eq-eqb _ _ (v .0 .taken) in
           let e = v .3 .ensures in
-          (u .inv .0, omega arith, rw (v .6) (e .1 .long ∙ u .inv .2), omega (arith, free-next (a .fixed .now) (u .j) free), rw (v .6) (turned-next (a .y) n f (a .w .now) (replicate n #0) (u .w) _ (u .j) (u .inv .4) (rw (free, ← u .inv .3) (e .0), e .1)))
+          (u .inv .0, omega arith, rw (v .6) (e .1 .long ∙ u .inv .2), omega (arith, free-next (a .fixed .now) (u .j) free), rw (v .6) (turned-next (a .y) n f _ _ (u .w) _ (u .j) (u .inv .4) (rw (free, ← u .inv .3) (e .0), e .1)))
       | inr v ↦
           let fixed = ne-eqb _ _ (v .0 .left) in
-          (u .inv .0, omega arith, rw (v .1) (u .inv .2), omega (arith, taken-next (a .fixed .now) (u .j) fixed), rw (v .1) (turned-still (a .y) n f (a .w .now) (replicate n #0) (u .w) (u .j) (u .inv .4) (rw fixed refl)))
+          (u .inv .0, omega arith, rw (v .1) (u .inv .2), omega (arith, taken-next (a .fixed .now) (u .j) fixed), rw (v .1) (turned-still (a .y) n f _ _ (u .w) (u .j) (u .inv .4) (rw fixed refl)))
     ]
 
 same-length : tie.Need-same-length Inv-loop μ-loop
@@ -102,9 +98,13 @@ returns : tie.Need-returns Inv-loop μ-loop
 unfolding freeProduct
 returns c =
     let u = c .before .loop in
-    let a = c .before .before .before .before .before .before .before .before .before .before .before .args in
+    let f = c .before .before .before .before in
+    let s = c .before .before .before .before .before .before .before .before .before .before .before in
+    let a = s .args in
     let n = 2 * length (a .pier .now) in
-    turned-end (a .y) n (step (a .sin-lat) (a .cos-lat) (a .names .now) (a .pier .now) (a .sheets .now) (a .fixed .now) (a .x .now)) (a .w .now) (replicate n #0) (u .w) (u .j) (length (a .fixed .now)) (omega arith) (omega arith) (u .inv .4)
+    let g = step (a .sin-lat) (a .cos-lat) (a .names .now) (a .pier .now) (a .sheets .now) (a .fixed .now) (a .x .now) in
+    let z = zeroed (a .w .now) (f .fill .last .0) (a .y) n (s .pre .4) (f .fill .kept .0) (f .fill .ensures) in
+    from-zero (a .y) n (length (a .fixed .now)) g (a .w .now) _ (u .w) z (turned-end (a .y) n g _ _ (u .w) (u .j) (length (a .fixed .now)) (omega arith) (omega arith) (u .inv .4))
 
 pub free-product-spec : {M : Type 1} → statement M
 free-product-spec =

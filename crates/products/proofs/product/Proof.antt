@@ -5,12 +5,11 @@ use mathlib.Core.Path.{_≡_, refl, _∙_}
 use mathlib.Core.List.{List}
 use lib.ListN.{length}
 use lib.Ieee.{Float}
-use lib.ListN.{replicate}
-use Rattle.float.specs.Float.{#0}
-use Rattle.sequence.specs.Sequence.{at}
+use Rattle.sequence.specs.Sequence.{at, part}
+use Rattle.sequence.proofs.Only.{only-none}
 use Rattle.design.specs.Design.{termAt, plus, product}
 use Rattle.design.specs.Filled.{columnTo}
-use Rattle.products.proofs.Laws.{zeroed, Turned, turned-none, turned-next, turned-end}
+use Rattle.products.proofs.Laws.{zeroed, from-zero, Turned, turned-none, turned-next, turned-end}
 use Rattle.products.proofs.product.Statement.{statement}
 use Rattle.products.proofs.product.Tie as tie
 
@@ -19,7 +18,7 @@ abbrev step : Float → Float → List ℕ → List ℕ → List Float → List 
 step sinLat cosLat names pier sheets c j p = plus (at c j) p (columnTo sinLat cosLat pier sheets (termAt names j))
 
 abbrev Inv-loop : tie.InvT-loop
-Inv-loop names pier sheets sin-lat cos-lat coefficients m w₀ y n j₀ w j = (j ≤ m) × (length w ≡ length w₀) × Turned w₀ y (2 * length pier) (replicate (2 * length pier) #0) (step sin-lat cos-lat names pier sheets coefficients) w j
+Inv-loop names pier sheets sin-lat cos-lat coefficients m w₀ y n j₀ w j = (j ≤ m) × (length w ≡ length w₀) × Turned w₀ y (2 * length pier) (part w₀ y (2 * length pier)) (step sin-lat cos-lat names pier sheets coefficients) w j
 
 abbrev μ-loop : tie.MeasureT-loop
 μ-loop names pier sheets sin-lat cos-lat coefficients m w₀ y n j₀ w j = m - j
@@ -47,12 +46,9 @@ fill-requires c κs = omega arith
 
 loop-holds : tie.Need-loop-holds Inv-loop μ-loop
 loop-holds c =
-    let f = c .before .before in
-    let s = c .before .before .before .before .before .before .before .before in
-    let a = s .args in
+    let a = c .before .before .before .before .before .before .before .before .args in
     let n = 2 * length (a .pier .now) in
-    let z = zeroed (a .w .now) (f .fill .last .0) (a .y) n (s .pre .4) (f .fill .kept .0) (f .fill .ensures) in
-    (omega arith, z .1 .long, turned-none (a .y) n (step (a .sin-lat) (a .cos-lat) (a .names .now) (a .pier .now) (a .sheets .now) (a .coefficients .now)) (a .w .now) _ (replicate n #0) (z .0) (z .1))
+    (omega arith, refl, turned-none (a .y) n (step (a .sin-lat) (a .cos-lat) (a .names .now) (a .pier .now) (a .sheets .now) (a .coefficients .now)) _ _ _ refl (only-none 0 (a .y + n) _))
 
 mul-c : tie.Need-mul-c Inv-loop μ-loop
 mul-c c = omega arith
@@ -75,7 +71,7 @@ loop-again c =
     let u = c .before .before .before .before .before .before .loop in
     let a = c .before .before .before .before .before .before .before .before .before .before .before .before .before .before .before .args in
     let n = 2 * length (a .pier .now) in
-    (omega arith, e .1 .long ∙ u .inv .1, turned-next (a .y) n (step (a .sin-lat) (a .cos-lat) (a .names .now) (a .pier .now) (a .sheets .now) (a .coefficients .now)) (a .w .now) (replicate n #0) (u .w) _ (u .j) (u .inv .2) e)
+    (omega arith, e .1 .long ∙ u .inv .1, turned-next (a .y) n (step (a .sin-lat) (a .cos-lat) (a .names .now) (a .pier .now) (a .sheets .now) (a .coefficients .now)) _ _ (u .w) _ (u .j) (u .inv .2) e)
 
 same-length : tie.Need-same-length Inv-loop μ-loop
 same-length c = omega arith
@@ -84,9 +80,13 @@ returns : tie.Need-returns Inv-loop μ-loop
 unfolding product
 returns c =
     let u = c .before .loop in
-    let a = c .before .before .before .before .before .before .before .before .before .before .args in
+    let f = c .before .before .before .before in
+    let s = c .before .before .before .before .before .before .before .before .before .before in
+    let a = s .args in
     let n = 2 * length (a .pier .now) in
-    turned-end (a .y) n (step (a .sin-lat) (a .cos-lat) (a .names .now) (a .pier .now) (a .sheets .now) (a .coefficients .now)) (a .w .now) (replicate n #0) (u .w) (u .j) (a .m) (omega arith) (omega arith) (u .inv .2)
+    let g = step (a .sin-lat) (a .cos-lat) (a .names .now) (a .pier .now) (a .sheets .now) (a .coefficients .now) in
+    let z = zeroed (a .w .now) (f .fill .last .0) (a .y) n (s .pre .4) (f .fill .kept .0) (f .fill .ensures) in
+    from-zero (a .y) n (a .m) g (a .w .now) _ (u .w) z (turned-end (a .y) n g _ _ (u .w) (u .j) (a .m) (omega arith) (omega arith) (u .inv .2))
 
 pub product-spec : {M : Type 1} → statement M
 product-spec =
