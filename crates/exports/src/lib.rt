@@ -6,6 +6,7 @@ ghost use Prim.Native.Nat.{_+_, _*_, _≤_, _<_};
 ghost use lib.ListN.{length};
 ghost use lib.Ieee.{binary64};
 ghost use Rattle.sqrt.specs.Sqrt as Root;
+ghost use Rattle.sequence.specs.Sequence.{part, Only};
 ghost use Rattle.jacobi.specs.Jacobi.{factorised};
 ghost use Rattle.linalg.specs.Linalg.{solvedDamped};
 
@@ -33,16 +34,17 @@ pub extern "C" fn pointing_factorise(
 #[no_mangle]
 pub extern "C" fn pointing_solve_damped(
     w: &mut [f64],
+    c: usize,
     h: usize,
     rows: usize,
     m: usize,
-    b: &[f64],
+    b: usize,
     lambda: f64,
     fit_tol: f64,
-    leverage: &mut [f64],
 ) -> linalg::SolveOutcome
-    requires { ⌜ (0 < m) × (m ≤ 32) × (rows + m + m ≤ h) × (m * h ≤ length (now w)) × (length (now b) ≤ rows) × (length (now leverage) ≤ rows) ⌝ }
-    ensures { λ r. ⌜ record { outcome = r; w = now (w .exit); leverage = now (leverage .exit) } ≡ solvedDamped h rows m (now (w .entry)) (now (b .entry)) lambda «fit_tol» (length (now (leverage .entry))) ⌝ }
+    requires { ⌜ (0 < m) × (m ≤ 32) × (rows + m + m ≤ h) × (c + m * h ≤ length (now w)) × (b + rows ≤ c) ⌝ }
+    ensures { λ r. ⌜ (record { outcome = r; w = part (now (w .exit)) c (m * h) } ≡ solvedDamped h rows m (part (now (w .entry)) c (m * h)) (part (now (w .entry)) b rows) lambda «fit_tol»)
+        × Only c (m * h) (now (w .entry)) (now (w .exit)) ⌝ }
 {
-    linalg::solve_damped(w, h, rows, m, b, lambda, fit_tol, leverage)
+    linalg::solve_damped(w, c, h, rows, m, b, lambda, fit_tol)
 }

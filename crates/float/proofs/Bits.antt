@@ -5,11 +5,11 @@ use mathlib.Core.Bool.{Bool, true, false, not, _&&_, true≢false}
 use mathlib.Core.Logic.{_⊎_, inl, inr}
 use native.Mathlib.Nat.{mul-right-comm, mul-lt-mul-of-pos-right, div-lt-iff-lt-mul, mod-eq-of-lt, eq-zero-or-pos}
 use native.Mathlib.Omega.{arith}
-use lib.IntN.{ℤ}
-use lib.Dec.{T, leb, ltb, eqb, ltb→lt}
+use lib.IntN.{ℤ, pos}
+use lib.Dec.{T, leb, ltb, eqb, ltb→lt, le→leb}
 use lib.Arith.{le→nltb}
 use lib.Pow.{pow-pos}
-use lib.Ieee.{Float, nan, inf, fin, binary64, up, down, size, eq, ne, fits, isNan, ofBits, toBits, nanBits}
+use lib.Ieee.{Float, nan, inf, fin, binary64, up, down, size, eq, ne, inFloat, fits, isNan, ofBits, toBits, nanBits}
 use lib.Ieee.Digits.{size-le}
 use lib.Ieee.Fits.{and-r, down-pos, kept-lt}
 use lib.Ieee.Bits.{ofBits-toBits, nanBits-above}
@@ -64,3 +64,9 @@ no-nan-bits r h =
 
     low : (r : ℕ) → r < 2047 * 2 ^ 52 → r ≤ 2047 * 2 ^ 52
     low r h = omega arith
+
+-- ---- a whole number up to 2 ^ 53 is a value
+
+pub whole-in : (n : ℕ) → n ≤ 2 ^ 53 → T (inFloat binary64 (pos n))
+unfolding inFloat
+whole-in n h = le→leb n (2 ^ 53) h

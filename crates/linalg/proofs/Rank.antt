@@ -14,6 +14,7 @@ use Rattle.sequence.specs.Sequence.{at}
 use Rattle.order.specs.Order.{ordered}
 use Rattle.order.proofs.All.{all-getD}
 use Rattle.order.proofs.Sorted.{refuted, ordered-length, ordered-below}
+use Rattle.linalg.proofs.Laws.{in-order}
 use Rattle.linalg.specs.Linalg.{value, threshold, rankTo, decomposed, answered, solved}
 
 no-threshold : (fitTol sigmaMax : Float) → le fitTol #0 ≡ true → threshold fitTol sigmaMax ≡ #0
@@ -27,12 +28,12 @@ unfolding rankTo
 all-above zero t s o f = refl
 all-above (suc n) t s o f = rw (f n (omega arith), all-above n t s o (λ i h. f i (omega arith))) (add-one n)
 
-pub full-rank : (h rows m : ℕ) (w b : List Float) (fitTol : Float) (lent : ℕ) → le fitTol #0 ≡ true
+pub full-rank : (h rows m : ℕ) (w b : List Float) (fitTol : Float) → le fitTol #0 ≡ true
     → ((j : ℕ) → j < m → lt #0 (at (decomposed h rows m w .values) j) ≡ true)
-    → solved h rows m w b fitTol lent .outcome .rank ≡ m
+    → solved h rows m w b fitTol .outcome .rank ≡ m
 unfolding solved answered
-full-rank h rows m w b fitTol lent e positive =
+full-rank h rows m w b fitTol e positive =
     let s = decomposed h rows m w .values in
     let o = ordered m s in
-    rw (ordered-length m s, no-threshold fitTol (value s o 0) e)
+    rw (in-order m s, ordered-length m s, no-threshold fitTol (value s o 0) e)
     (all-above m #0 s o (λ i l. positive (getD o i 0) (all-getD (λ x. x < m) o i (ordered-below m s) (rw (ordered-length m s) l))))

@@ -4,14 +4,14 @@
 
 ghost use mathlib.Core.Path.{_≡_};
 ghost use Prim.Native.Nat.{_+_, _*_, _≤_, _<_};
-ghost use lib.ListN.{length};
-ghost use Rattle.sequence.specs.Sequence.{table};
-ghost use Rattle.order.specs.Order.{ordered};
+ghost use lib.ListN.{length, take};
+ghost use Rattle.sequence.specs.Sequence.{part, Only};
 ghost use Rattle.column.specs.Column.{extended};
-ghost use Rattle.linalg.specs.Linalg.{Taken, Placed, entry as entryOf, threshold as thresholdOf, inverses as inversesOf, rankTo, projected, xScaled, solution as solutionOf, scaledVariance as scaledVarianceOf, covariance as covarianceOf, leverageOf, decomposed, answered, solved, solvedDamped};
+ghost use Rattle.linalg.specs.Linalg.{Taken, Placed, entry as entryOf, threshold as thresholdOf, inverses as inversesOf, rankTo, projected, xScaled, solution as solutionOf, scaledVariance as scaledVarianceOf, covariance as covarianceOf, leverageOf, decomposed, inOrder, answered, solved, solvedDamped};
 
 // The Rust's record, with zeros past the m columns, how many sweeps the factorisation made and
-// whether the last had no turn. The leverage, a number a row, goes to a lent slice.
+// whether the last had no turn. In the leverage's place stand inv_s and the order of the columns, from
+// which `leverage` gives it row by row.
 #[repr(C)]
 pub struct SolveOutcome {
     pub x: [f64; 32],
@@ -19,6 +19,8 @@ pub struct SolveOutcome {
     pub rank: usize,
     pub sigma_max: f64,
     pub sigma_min: f64,
+    pub inv_s: [f64; 32],
+    pub order: [usize; 32],
     pub sweeps: usize,
     pub settled: bool,
 }
@@ -174,7 +176,7 @@ fn covariance(
 }
 
 // The leverage of row r: the sum of the squares of U's row where inv_s isn't 0.
-fn leverage(w: &[f64], h: usize, o: &[usize], r: usize, inv_s: &[f64; 32]) -> f64
+pub fn leverage(w: &[f64], h: usize, o: &[usize], r: usize, inv_s: &[f64; 32]) -> f64
     requires { ⌜ Placed h (now w) (now o) × (r < h) ⌝ }
     ensures { λ t. ⌜ t ≡ leverageOf h (now (w .entry)) (now (o .entry)) (now («inv_s» .entry)) r ⌝ }
 {
@@ -189,35 +191,36 @@ fn leverage(w: &[f64], h: usize, o: &[usize], r: usize, inv_s: &[f64; 32]) -> f6
     t
 }
 
-// The leverage of as many rows as are lent.
-fn leverages(w: &[f64], h: usize, o: &[usize], inv_s: &[f64; 32], out: &mut [f64])
-    requires { ⌜ Placed h (now w) (now o) × (length (now out) ≤ h) ⌝ }
-    ensures { λ _. ⌜ now (out .exit) ≡ table (length (now (out .entry))) (leverageOf h (now (w .entry)) (now (o .entry)) (now («inv_s» .entry))) ⌝ }
+// The columns in the order of their values, and zeros after them.
+fn in_order(values: &[f64; 32], m: usize) -> [usize; 32]
+    requires { ⌜ m ≤ 32 ⌝ }
+    ensures { λ r. ⌜ r ≡ inOrder m (now (values .entry)) ⌝ }
 {
-    for r in 0..out.len() {
-        out[r] = leverage(w, h, o, r, inv_s);
-    }
+    let mut o = [0usize; 32];
+    order::order(values, &mut o[..m]);
+    o
 }
 
-// The answer from a decomposition and the order o of its values.
+// The answer from a decomposition, whose values are taken in the order that begins `order`.
 fn answer(
     w: &[f64],
     h: usize,
     rows: usize,
+    m: usize,
     b: &[f64],
     fit_tol: f64,
     d: Factors,
-    o: &[usize],
-    leverage: &mut [f64],
+    order: [usize; 32],
 ) -> SolveOutcome
-    requires { ⌜ Placed h (now w) (now o) × (0 < length (now o)) × (rows + length (now o) ≤ h) × (length (now b) ≤ rows) × (length (now leverage) ≤ h) ⌝ }
-    ensures { λ r. ⌜ record { outcome = r; w = now (w .entry); leverage = now (leverage .exit) }
-        ≡ answered h rows (extended rows (now (b .entry))) «fit_tol» (length (now (leverage .entry))) (record { norms = d .norms; w = now (w .entry); values = d .values; made = d .made; settled = d .settled }) (now (o .entry)) ⌝ }
+    requires { ⌜ Placed h (now w) (take m order) × (0 < m) × (length (take m order) ≡ m) × (rows + m ≤ h) × (length (now b) ≤ rows) ⌝ }
+    ensures { λ r. ⌜ record { outcome = r; w = now (w .entry) }
+        ≡ answered h rows m (extended rows (now (b .entry))) «fit_tol» (record { norms = d .norms; w = now (w .entry); values = d .values; made = d .made; settled = d .settled }) order ⌝ }
 {
     let norms = d.norms;
     let values = d.values;
+    let o = &order[..m];
     let first = o[0];
-    let last = o[o.len() - 1];
+    let last = o[m - 1];
     let sigma_max = values[first];
     let t = threshold(fit_tol, sigma_max);
     let k = invert(&values, o, t);
@@ -225,74 +228,61 @@ fn answer(
     let z = project(w, h, rows, b, o, &inv_s);
     let x = solution(w, h, rows, o, &z, &norms);
     let cov_diag = covariance(w, h, rows, o, &inv_s, &norms);
-    leverages(w, h, o, &inv_s, leverage);
     SolveOutcome {
         x,
         cov_diag,
         rank: k.rank,
         sigma_max,
         sigma_min: values[last],
+        inv_s,
+        order,
         sweeps: d.made,
         settled: d.settled,
     }
 }
 
-// The same with the order worked out in o, which has a place for each column.
-fn answer_in_order(
-    w: &[f64],
-    h: usize,
-    rows: usize,
-    b: &[f64],
-    fit_tol: f64,
-    d: Factors,
-    o: &mut [usize],
-    leverage: &mut [f64],
-) -> SolveOutcome
-    requires { ⌜ (0 < length (now o)) × (length (now o) ≤ 32) × (length (now o) * h ≤ length (now w)) × (rows + length (now o) ≤ h) × (length (now b) ≤ rows) × (length (now leverage) ≤ h) ⌝ }
-    ensures { λ r. ⌜ record { outcome = r; w = now (w .entry); leverage = now (leverage .exit) }
-        ≡ answered h rows (extended rows (now (b .entry))) «fit_tol» (length (now (leverage .entry))) (record { norms = d .norms; w = now (w .entry); values = d .values; made = d .made; settled = d .settled }) (ordered (length (now (o .entry))) (d .values)) ⌝ }
-{
-    let values = d.values;
-    order::order(&values, o);
-    answer(w, h, rows, b, fit_tol, d, o, leverage)
-}
-
-// A has its columns in w; b may be shorter than they are, and then stands for b with zeros below. The
-// columns end as those of U and V.
+// A has its columns in w from c on, and b its n numbers from `b` on, below them; n may be less than `rows`, and then b stands for b with
+// zeros below. The columns end as those of U and V.
 pub fn solve_and_covariance(
     w: &mut [f64],
+    c: usize,
     h: usize,
     rows: usize,
     m: usize,
-    b: &[f64],
+    b: usize,
+    n: usize,
     fit_tol: f64,
-    leverage: &mut [f64],
 ) -> SolveOutcome
-    requires { ⌜ (0 < m) × (m ≤ 32) × (rows + m ≤ h) × (m * h ≤ length (now w)) × (length (now b) ≤ rows) × (length (now leverage) ≤ rows) ⌝ }
-    ensures { λ r. ⌜ record { outcome = r; w = now (w .exit); leverage = now (leverage .exit) } ≡ solved h rows m (now (w .entry)) (now (b .entry)) «fit_tol» (length (now (leverage .entry))) ⌝ }
+    requires { ⌜ (0 < m) × (m ≤ 32) × (rows + m ≤ h) × (c + m * h ≤ length (now w)) × (n ≤ rows) × (b + n ≤ c) ⌝ }
+    ensures { λ r. ⌜ (record { outcome = r; w = part (now (w .exit)) c (m * h) } ≡ solved h rows m (part (now (w .entry)) c (m * h)) (part (now (w .entry)) b n) «fit_tol»)
+        × Only c (m * h) (now (w .entry)) (now (w .exit)) ⌝ }
 {
-    let d = decompose(w, h, rows, m);
-    let mut o = [0usize; 32];
-    answer_in_order(w, h, rows, b, fit_tol, d, &mut o[..m], leverage)
+    let k = m * h;
+    let d = decompose(&mut w[c..c + k], h, rows, m);
+    let values = d.values;
+    let order = in_order(&values, m);
+    let v = &w[..];
+    answer(&v[c..c + k], h, rows, m, &v[b..b + n], fit_tol, d, order)
 }
 
 // The same with damping rows below the data rows, unless lambda <= 0.0; a NaN isn't.
 pub fn solve_damped(
     w: &mut [f64],
+    c: usize,
     h: usize,
     rows: usize,
     m: usize,
-    b: &[f64],
+    b: usize,
     lambda: f64,
     fit_tol: f64,
-    leverage: &mut [f64],
 ) -> SolveOutcome
-    requires { ⌜ (0 < m) × (m ≤ 32) × (rows + m + m ≤ h) × (m * h ≤ length (now w)) × (length (now b) ≤ rows) × (length (now leverage) ≤ rows) ⌝ }
-    ensures { λ r. ⌜ record { outcome = r; w = now (w .exit); leverage = now (leverage .exit) } ≡ solvedDamped h rows m (now (w .entry)) (now (b .entry)) lambda «fit_tol» (length (now (leverage .entry))) ⌝ }
+    requires { ⌜ (0 < m) × (m ≤ 32) × (rows + m + m ≤ h) × (c + m * h ≤ length (now w)) × (b + rows ≤ c) ⌝ }
+    ensures { λ r. ⌜ (record { outcome = r; w = part (now (w .exit)) c (m * h) } ≡ solvedDamped h rows m (part (now (w .entry)) c (m * h)) (part (now (w .entry)) b rows) lambda «fit_tol»)
+        × Only c (m * h) (now (w .entry)) (now (w .exit)) ⌝ }
 {
     if lambda <= 0.0 {
-        return solve_and_covariance(w, h, rows, m, b, fit_tol, leverage);
+        return solve_and_covariance(w, c, h, rows, m, b, rows, fit_tol);
     }
-    column::diagonals(w, h, rows, m, sqrt::sqrt(lambda));
-    solve_and_covariance(w, h, rows + m, m, b, fit_tol, leverage)
+    column::diagonals(&mut w[c..c + m * h], h, rows, m, sqrt::sqrt(lambda));
+    solve_and_covariance(w, c, h, rows + m, m, b, rows, fit_tol)
 }

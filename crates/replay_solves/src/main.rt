@@ -3,7 +3,9 @@
 
 ghost use mathlib.Core.Path.{_≡_};
 ghost use Prim.Native.Nat.{_+_, _*_, _<_, _≤_};
-ghost use lib.ListN.{length};
+ghost use lib.ListN.{length, take};
+ghost use Rattle.linalg.specs.Linalg.{Placed};
+ghost use Rattle.replay_solves.specs.Systems.{Sized, Ordered};
 use linalg::SolveOutcome;
 
 struct Tally {
@@ -55,14 +57,6 @@ fn hold(held: Held, x: f64) -> Held {
     }
 }
 
-fn hold_all(held: Held, s: &[f64]) -> Held {
-    let mut held = held;
-    for i in 0..s.len() {
-        held = hold(held, s[i]);
-    }
-    held
-}
-
 // The first m numbers of x.
 fn hold_first(held: Held, x: [f64; 32], m: usize) -> Held
     requires { ⌜ m ≤ 32 ⌝ }
@@ -78,9 +72,22 @@ fn settled_code(settled: bool) -> u8 {
     if settled { 1 } else { 0 }
 }
 
+// The leverage of the first rows, from the columns that the solve left.
+fn hold_leverage(held: Held, w: &[f64], h: usize, rows: usize, r: SolveOutcome, m: usize) -> Held
+    requires { ⌜ (rows ≤ h) × (m ≤ 32) × Placed h (now w) (take m (r .order)) × (length (take m (r .order)) ≡ m) ⌝ }
+{
+    let order = r.order;
+    let inv_s = r.inv_s;
+    let mut held = held;
+    for i in 0..rows {
+        held = hold(held, linalg::leverage(w, h, &order[..m], i, &inv_s));
+    }
+    held
+}
+
 // The whole outcome held against the oracle's.
-fn hold_outcome(r: SolveOutcome, m: usize, leverage: &[f64]) -> Held
-    requires { ⌜ m ≤ 32 ⌝ }
+fn hold_outcome(r: SolveOutcome, m: usize, w: &[f64], h: usize, rows: usize) -> Held
+    requires { ⌜ (rows ≤ h) × (m ≤ 32) × Placed h (now w) (take m (r .order)) × (length (take m (r .order)) ≡ m) ⌝ }
 {
     let x = r.x;
     let cov_diag = r.cov_diag;
@@ -90,7 +97,7 @@ fn hold_outcome(r: SolveOutcome, m: usize, leverage: &[f64]) -> Held
     };
     held = hold_first(held, x, m);
     held = hold_first(held, cov_diag, m);
-    held = hold_all(held, leverage);
+    held = hold_leverage(held, w, h, rows, r, m);
     let rank = replay::wide(replay::byte());
     held = hold(held, r.sigma_max);
     held = hold(held, r.sigma_min);
@@ -123,17 +130,51 @@ fn count(mut t: Tally, head: Head, r: SolveOutcome, held: Held) -> Tally {
     t
 }
 
-// One system of at most 256 rows and 32 columns.
-fn solve(t: Tally, head: Head, w: &mut [f64], b: &mut [f64], leverage: &mut [f64]) -> Tally
-    requires { ⌜ (head .rows ≤ 256) × (0 < head .m) × (head .m ≤ 32) × (10240 ≤ length (now w)) × (length (now b) ≡ head .rows) × (length (now leverage) ≡ head .rows) ⌝ }
+// The columns of a system lie from 256 on.
+fn read_matrix(head: Head, w: &mut [f64])
+    requires { ⌜ Sized (head .rows) (head .m) (now w) ⌝ }
 {
     let rows = head.rows;
     let m = head.m;
-    let h = rows + m + m;
-    read_columns(w, h, rows, m);
-    read_doubles(b);
-    let r = linalg::solve_damped(w, h, rows, m, b, head.lambda, head.fit_tol, leverage);
-    let held = hold_outcome(r, m, leverage);
+    read_columns(&mut w[256..], rows + m + m, rows, m);
+}
+
+// b lies at the front.
+fn read_residuals(head: Head, w: &mut [f64])
+    requires { ⌜ Sized (head .rows) (head .m) (now w) ⌝ }
+{
+    let rows = head.rows;
+    read_doubles(&mut w[..rows]);
+}
+
+// An outcome and the columns that it was worked out in.
+fn hold_solve(head: Head, r: SolveOutcome, w: &[f64]) -> Held
+    requires { ⌜ Sized (head .rows) (head .m) (now w) × Ordered (head .m) (r .order) ⌝ }
+{
+    let rows = head.rows;
+    let m = head.m;
+    hold_outcome(r, m, &w[256..], rows + m + m, rows)
+}
+
+// One system of at most 256 rows and 32 columns.
+fn solve(t: Tally, head: Head, w: &mut [f64]) -> Tally
+    requires { ⌜ Sized (head .rows) (head .m) (now w) ⌝ }
+{
+    let rows = head.rows;
+    let m = head.m;
+    read_matrix(head, w);
+    read_residuals(head, w);
+    let r = linalg::solve_damped(
+        w,
+        256,
+        rows + m + m,
+        rows,
+        m,
+        0,
+        head.lambda,
+        head.fit_tol,
+    );
+    let held = hold_solve(head, r, w);
     count(t, head, r, held)
 }
 
@@ -143,8 +184,8 @@ struct Step {
 }
 
 // One record; the input ends where there is no head, or no system that the oracle writes.
-fn record(t: Tally, w: &mut [f64], b: &mut [f64], leverage: &mut [f64]) -> Step
-    requires { ⌜ (10240 ≤ length (now w)) × (256 ≤ length (now b)) × (256 ≤ length (now leverage)) ⌝ }
+fn record(t: Tally, w: &mut [f64]) -> Step
+    requires { ⌜ length (now w) ≡ 10496 ⌝ }
 {
     let mut start = [0u8; 2];
     let given = replay::next(&mut start);
@@ -174,7 +215,7 @@ fn record(t: Tally, w: &mut [f64], b: &mut [f64], leverage: &mut [f64]) -> Step
         lambda,
         fit_tol,
     };
-    let tally = solve(t, head, w, &mut b[..rows], &mut leverage[..rows]);
+    let tally = solve(t, head, w);
     Step { more: true, tally }
 }
 
@@ -188,8 +229,8 @@ fn report(t: Tally) {
 }
 
 // All records.
-fn records(w: &mut [f64], b: &mut [f64], leverage: &mut [f64])
-    requires { ⌜ (10240 ≤ length (now w)) × (256 ≤ length (now b)) × (256 ≤ length (now leverage)) ⌝ }
+fn records(w: &mut [f64])
+    requires { ⌜ length (now w) ≡ 10496 ⌝ }
 {
     let mut t = Tally {
         solves: 0,
@@ -202,7 +243,7 @@ fn records(w: &mut [f64], b: &mut [f64], leverage: &mut [f64])
     let mut more = true;
     let mut turns = u64::MAX;
     while turns > 0 && more {
-        let s = record(t, w, b, leverage);
+        let s = record(t, w);
         t = s.tally;
         more = s.more;
         turns -= 1;
@@ -210,21 +251,13 @@ fn records(w: &mut [f64], b: &mut [f64], leverage: &mut [f64])
     report(t);
 }
 
-fn matrix_room() -> [f64; 10240]
-    ensures { λ r. ⌜ 10240 ≡ length r ⌝ }
+fn room() -> [f64; 10496]
+    ensures { λ r. ⌜ 10496 ≡ length r ⌝ }
 {
-    [0.0; 10240]
-}
-
-fn vector_room() -> [f64; 256]
-    ensures { λ r. ⌜ 256 ≡ length r ⌝ }
-{
-    [0.0; 256]
+    [0.0; 10496]
 }
 
 fn main() {
-    let mut w = matrix_room();
-    let mut b = vector_room();
-    let mut leverage = vector_room();
-    records(&mut w, &mut b, &mut leverage);
+    let mut w = room();
+    records(&mut w);
 }

@@ -3,3 +3,4 @@ pub mod Parts
 pub mod Fills
 pub mod Sums
 pub mod Only
+pub mod Combine

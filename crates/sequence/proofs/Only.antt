@@ -1,12 +1,13 @@
 -- What a change in one place leaves: laws of `Only`. Assumes nothing.
-use Prim.Native.Nat.{ℕ, _+_, _≤_}
+use Prim.Native.Nat.{ℕ, _+_, _-_, _≤_}
+use native.Mathlib.Nat.{add-sub-cancel-left}
 use native.Mathlib.Omega.{arith}
-use mathlib.Core.Path.{refl, _∙_}
-use mathlib.Core.List.{List}
-use lib.ListN.{length}
-use lib.Seq.{sets, length-sets}
-use Rattle.sequence.specs.Sequence.{Only}
-use Rattle.sequence.proofs.Parts.{part-sets-above, part-sets-below}
+use mathlib.Core.Path.{_≡_, refl, sym, ap, _∙_}
+use mathlib.Core.List.{List, _++_, append-assoc}
+use lib.ListN.{length, take, drop}
+use lib.Seq.{sets, sets-eq, length-sets, drop-drop}
+use Rattle.sequence.specs.Sequence.{part, Only}
+use Rattle.sequence.proofs.Parts.{length-part, part-sets-same, part-sets-above, part-sets-below}
 
 module _ {A : Type 0} where
   pub only-none : (x n : ℕ) (l : List A) → Only x n l l
@@ -33,3 +34,26 @@ module _ {A : Type 0} where
     below = λ i k h. p .below i k h ∙ o .below i k h;
     above = λ i k h. p .above i k h ∙ o .above i k h;
   }
+
+pub length-cut : {A : Type 0} (l : List A) (i n : ℕ) → i + n ≤ length l → length (take (i + n - i) (drop i l)) ≡ n
+length-cut l i n h = ap (λ (k : ℕ). length (take k (drop i l))) (add-sub-cancel-left i n) ∙ length-part l i n h
+
+-- what a list is when the n elements from i on, lent, have come back as ys
+abbrev pub back : {A : Type 0} → List A → List A → ℕ → ℕ → List A
+back l ys i n = take i l ++ (ys ++ drop (i + n - i) (drop i l))
+
+module _ {A : Type 0} (l ys : List A) (i n : ℕ) (h : i + n ≤ length l) (kept : length ys ≡ length (take (i + n - i) (drop i l))) where
+  pub back-long : length ys ≡ n
+  back-long = kept ∙ length-cut l i n h
+
+  back-sets : back l ys i n ≡ sets l i ys
+  back-sets =
+      let c : i + n - i ≡ n = add-sub-cancel-left i n in
+      let e : length ys ≡ n = back-long in
+      rw (c, sets-eq ys l i (omega arith), e, drop-drop n i l) (sym (append-assoc (take i l) ys (drop (i + n) l)))
+
+  pub back-only : Only i n l (back l ys i n)
+  back-only = let e : length ys ≡ n = back-long in rw back-sets (only-sets l i n ys (omega arith))
+
+  pub back-part : part (back l ys i n) i n ≡ ys
+  back-part = rw back-sets (part-sets-same l i n ys back-long h)

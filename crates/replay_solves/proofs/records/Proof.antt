@@ -6,13 +6,13 @@ use Rattle.replay_solves.proofs.records.Statement.{statement}
 use Rattle.replay_solves.proofs.records.Tie as tie
 
 abbrev Inv-loop : tie.InvT-loop
-Inv-loop w₀ b₀ leverage₀ t₀ more₀ turns₀ w b leverage t more turns = (length w ≡ length w₀) × (length b ≡ length b₀) × (length leverage ≡ length leverage₀)
+Inv-loop w₀ t₀ more₀ turns₀ w t more turns = length w ≡ length w₀
 
 abbrev μ-loop : tie.MeasureT-loop
-μ-loop w₀ b₀ leverage₀ t₀ more₀ turns₀ w b leverage t more turns = turns
+μ-loop w₀ t₀ more₀ turns₀ w t more turns = turns
 
 loop-holds : tie.Need-loop-holds Inv-loop μ-loop
-loop-holds c = (refl, refl, refl)
+loop-holds c = refl
 
 record-requires : tie.Need-record-requires Inv-loop μ-loop
 record-requires c κs = omega arith
@@ -32,12 +32,6 @@ report-requires c κs = tt
 same-length : tie.Need-same-length Inv-loop μ-loop
 same-length c = omega arith
 
-same-length-2 : tie.Need-same-length-2 Inv-loop μ-loop
-same-length-2 c = omega arith
-
-same-length-3 : tie.Need-same-length-3 Inv-loop μ-loop
-same-length-3 c = omega arith
-
 returns : tie.Need-returns Inv-loop μ-loop
 returns c = tt
 
@@ -54,6 +48,4 @@ records-spec =
     loop-again
     report-requires
     same-length
-    same-length-2
-    same-length-3
     returns)

@@ -1,46 +1,43 @@
--- `solve` meets what its callees ask: the columns fit. Assumes nothing.
-use Prim.Native.Nat.{ℕ, _+_, _*_, _≤_}
-use native.Mathlib.Nat.{mul-le-mul}
+-- `solve` meets what its callees ask. Assumes nothing.
+use mathlib.Core.Path.{subst, sym, ap}
+use mathlib.Core.List.{List}
+use Prim.Native.Nat.{ℕ}
+use Rattle.linalg.specs.Linalg.{Solved}
+use Rattle.replay_solves.specs.Systems.{Ordered}
+use Rattle.replay_solves.proofs.Laws.{fits, damped-ordered}
 use borrow.Author.Needs.{needs}
 use native.Mathlib.Omega.{arith}
 use Rattle.replay_solves.proofs.solve.Statement.{statement}
 use Rattle.replay_solves.proofs.solve.Tie as tie
 
--- 32 columns of 320 numbers at most
-fit : (m rows : ℕ) → m ≤ 32 → rows ≤ 256 → m * (rows + m + m) ≤ 10240
-fit m rows p q = mul-le-mul {n₂ = 32} {m₂ = 320} p (omega arith)
+read-matrix-requires : tie.Need-read-matrix-requires
+read-matrix-requires c κs = search needs
 
-add-h : tie.Need-add-h
-add-h c = search needs
+read-residuals-requires : tie.Need-read-residuals-requires
+read-residuals-requires c κs = search needs
 
-add-h-2 : tie.Need-add-h-2
-add-h-2 c = search needs
+add-solve-damped : tie.Need-add-solve-damped
+add-solve-damped c = search needs
 
-read-columns-requires : tie.Need-read-columns-requires
-read-columns-requires c κs = let a = c .before .before .before .before in (omega arith, omega (arith, fit (a .args .head .m) (a .args .head .rows) (omega arith) (omega arith)))
-
-read-doubles-requires : tie.Need-read-doubles-requires
-read-doubles-requires c κs = search needs
+add-solve-damped-2 : tie.Need-add-solve-damped-2
+add-solve-damped-2 c = search needs
 
 solve-damped-requires : tie.Need-solve-damped-requires
 solve-damped-requires c κs =
-    let a = c .before .before .before .before .before .before .before .before .before .before .before .before .before .before in
-    omega (arith, fit (a .args .head .m) (a .args .head .rows) (omega (arith, a .pre)) (omega (arith, a .pre)), a .pre)
+    let a = c .before .before .before .before .before .before .before .before .before .before in
+    omega (arith, fits (a .args .head .m) (a .args .head .rows) (a .pre .few-columns) (a .pre .few-rows), a .pre)
 
-hold-outcome-requires : tie.Need-hold-outcome-requires
-hold-outcome-requires c κs = search needs
+hold-solve-requires : tie.Need-hold-solve-requires
+hold-solve-requires c κs =
+    let a = c .before .before .before .before .before .before .before .before .before .before .before .before .before .before in
+    (record { few-rows = a .pre .few-rows; some-columns = a .pre .some-columns; few-columns = a .pre .few-columns; room = omega (arith, a .pre) },
+    subst (λ (s : Solved). Ordered (a .args .head .m) (s .outcome .order)) (sym (c .before .before .before .solve-damped .ensures .0)) (damped-ordered _ _ _ _ _ _ _))
 
 count-requires : tie.Need-count-requires
 count-requires c κs = search needs
 
 same-length : tie.Need-same-length
 same-length c = search needs
-
-same-length-2 : tie.Need-same-length-2
-same-length-2 c = search needs
-
-same-length-3 : tie.Need-same-length-3
-same-length-3 c = search needs
 
 returns : tie.Need-returns
 returns c = search needs
@@ -49,14 +46,12 @@ pub solve-spec : {M : Type 1} → statement M
 solve-spec =
     tie.close
     (tie.spec
-    add-h
-    add-h-2
-    read-columns-requires
-    read-doubles-requires
+    read-matrix-requires
+    read-residuals-requires
+    add-solve-damped
+    add-solve-damped-2
     solve-damped-requires
-    hold-outcome-requires
+    hold-solve-requires
     count-requires
     same-length
-    same-length-2
-    same-length-3
     returns)

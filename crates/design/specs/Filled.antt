@@ -1,0 +1,32 @@
+-- Columns and residuals by the star's number, as the loops over the lent slices fill them. Definitions only.
+use Prim.Native.Nat.{ℕ, zero, suc}
+use mathlib.Core.List.{List, [], _∷_, _++_}
+use lib.ListN.{length, getD}
+use lib.Ieee.{Float}
+use Rattle.float.specs.Float.{_⊗_}
+use Rattle.sequence.specs.Sequence.{at}
+use Rattle.observation.specs.declared.Pair.{Pair}
+use Rattle.terms.specs.declared.Term.{Term}
+use Rattle.design.specs.Design.{sheetAt, cosDec, slope}
+
+-- f 0, g 0, f 1, g 1 and so on, n of each
+unfoldable pub rowsTo : ℕ → (ℕ → Float) → (ℕ → Float) → List Float
+rowsTo zero f g = []
+rowsTo (suc n) f g = rowsTo n f g ++ (f n ∷ g n ∷ [])
+
+abbrev pub slopeAt : Float → Float → Term → List ℕ → List Float → ℕ → Pair
+slopeAt sinLat cosLat t pier sheets i = slope sinLat cosLat t (getD pier i 0) (sheetAt sheets i)
+
+unfoldable pub columnTo : Float → Float → List ℕ → List Float → Term → List Float
+columnTo sinLat cosLat pier sheets t =
+    rowsTo (length pier) (λ i. slopeAt sinLat cosLat t pier sheets i .dh) (λ i. slopeAt sinLat cosLat t pier sheets i .dd)
+
+unfoldable pub skyColumnTo : Float → Float → List ℕ → List Float → Term → List Float
+skyColumnTo sinLat cosLat pier sheets t =
+    rowsTo (length pier) (λ i. slopeAt sinLat cosLat t pier sheets i .dh ⊗ cosDec (sheetAt sheets i)) (λ i. slopeAt sinLat cosLat t pier sheets i .dd)
+
+unfoldable pub differencesTo : List Float → List Float → List Float
+differencesTo dh dd = rowsTo (length dh) (at dh) (at dd)
+
+unfoldable pub skyDifferencesTo : List Float → List Float → List Float → List Float
+skyDifferencesTo dh dd sheets = rowsTo (length dh) (λ i. at dh i ⊗ cosDec (sheetAt sheets i)) (at dd)

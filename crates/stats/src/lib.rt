@@ -1,0 +1,131 @@
+// The statistics of a fit. After solver/stats.rs.
+
+ghost use mathlib.Core.Path.{_≡_};
+ghost use Prim.Native.Nat.{_+_, _*_, _≤_};
+ghost use lib.ListN.{length, replicate};
+ghost use lib.Ieee.{Float};
+ghost use Rattle.float.specs.Float.{#0};
+ghost use Rattle.sequence.specs.Sequence.{filled, dot as dotOf};
+ghost use Rattle.design.specs.Design.{sheetAt, cosDec};
+ghost use Rattle.stats.specs.Stats.{degrees as degreesOf, sumSqSky, skyRms, popnSd, variance as varianceOf, sigmaAt, deviation as deviationOf, clamped as clampedOf, studentizedRow, diagnostic as diagnosticOf};
+use solver::ObsDiagnostic;
+
+// The squares of n stars' residuals on the sky, two residuals a star, as one sum in order.
+fn sum_sq_sky(sheets: &[f64], r: &[f64], n: usize) -> f64
+    requires { ⌜ (length (now sheets) ≡ 37 * n) × (length (now r) ≡ 2 * n) ⌝ }
+    ensures { λ s. ⌜ s ≡ sumSqSky n (λ i. cosDec (sheetAt (now (sheets .entry)) i)) (now (r .entry)) ⌝ }
+{
+    let mut sum = 0.0;
+    for i in 0..n {
+        let dx = r[2 * i] * design::cos_dec(sheets, i);
+        let dd = r[2 * i + 1];
+        sum = sum + (dx * dx + dd * dd);
+    }
+    sum
+}
+
+pub fn compute_sky_rms(sheets: &[f64], r: &[f64], n: usize) -> f64
+    requires { ⌜ (n ≤ 1024) × (length (now sheets) ≡ 37 * n) × (length (now r) ≡ 2 * n) ⌝ }
+    ensures { λ s. ⌜ s ≡ skyRms n (λ i. cosDec (sheetAt (now (sheets .entry)) i)) (now (r .entry)) ⌝ }
+{
+    if n == 0 {
+        return 0.0;
+    }
+    sqrt::sqrt(sum_sq_sky(sheets, r, n) / n as f64)
+}
+
+pub fn compute_popn_sd(sheets: &[f64], r: &[f64], n: usize, n_free: usize) -> f64
+    requires { ⌜ (n ≤ 1024) × (length (now sheets) ≡ 37 * n) × (length (now r) ≡ 2 * n) ⌝ }
+    ensures { λ s. ⌜ s ≡ popnSd n (λ i. cosDec (sheetAt (now (sheets .entry)) i)) (now (r .entry)) «n_free» ⌝ }
+{
+    if n <= n_free {
+        return 0.0;
+    }
+    sqrt::sqrt(sum_sq_sky(sheets, r, n) / (n - n_free) as f64)
+}
+
+// The sum of the squares of r.
+fn squares(r: &[f64]) -> f64
+    ensures { λ s. ⌜ s ≡ dotOf (now (r .entry)) (now (r .entry)) ⌝ }
+{
+    let mut t = 0.0;
+    for k in 0..r.len() {
+        t = t + r[k] * r[k];
+    }
+    t
+}
+
+// n less k, and at least 1.
+fn degrees(n: usize, k: usize) -> usize
+    ensures { λ r. ⌜ (r ≡ degreesOf n k) × (r ≤ n + 1) ⌝ }
+{
+    if n <= k {
+        return 1;
+    }
+    n - k
+}
+
+// The residuals' squares over so many less the rank.
+pub fn variance(r: &[f64], n: usize, rank: usize) -> f64
+    requires { ⌜ n ≤ 2048 ⌝ }
+    ensures { λ s. ⌜ s ≡ varianceOf (now (r .entry)) n rank ⌝ }
+{
+    squares(r) / degrees(n, rank) as f64
+}
+
+// The sigmas of m terms, from the place of each free one in the covariance diagonal.
+pub fn compute_sigma(fixed: &[u8], m: usize, s2: f64, cov_diag: [f64; 32]) -> [f64; 32]
+    requires { ⌜ (m ≤ 32) × (length (now fixed) ≡ m) ⌝ }
+    ensures { λ r. ⌜ r ≡ filled m (sigmaAt (now (fixed .entry)) s2 «cov_diag») (replicate 32 #0) ⌝ }
+{
+    let mut sigma = [0.0; 32];
+    let mut fi = 0usize;
+    for j in 0..m {
+        if fixed[j] == 0 {
+            sigma[j] = sqrt::sqrt(float::abs(s2 * cov_diag[fi]));
+            fi += 1;
+        } else {
+            sigma[j] = 0.0;
+        }
+    }
+    sigma
+}
+
+fn clamped(x: f64) -> f64
+    ensures { λ r. ⌜ r ≡ clampedOf x ⌝ }
+{
+    if x < 0.0 {
+        return 0.0;
+    }
+    if x > 1.0 {
+        return 1.0;
+    }
+    x
+}
+
+// A row's residual in units of its uncertainty.
+fn studentized_row(s: f64, r: f64, h: f64) -> f64
+    ensures { λ t. ⌜ t ≡ studentizedRow s r h ⌝ }
+{
+    if s > 0.0 {
+        if h < 1.0 {
+            return r / (s * sqrt::sqrt(1.0 - h));
+        }
+    }
+    0.0
+}
+
+// Of a star with the residuals r_ha and r_dec, whose rows have the leverages l_ha and l_dec.
+pub fn diagnostic(s: f64, r_ha: f64, r_dec: f64, l_ha: f64, l_dec: f64) -> ObsDiagnostic
+    ensures { λ d. ⌜ d ≡ diagnosticOf s «r_ha» «r_dec» «l_ha» «l_dec» ⌝ }
+{
+    let h_ha = clamped(l_ha);
+    let h_dec = clamped(l_dec);
+    let t_ha = studentized_row(s, r_ha, h_ha);
+    let t_dec = studentized_row(s, r_dec, h_dec);
+    ObsDiagnostic {
+        residual_sky: sqrt::sqrt(r_ha * r_ha + r_dec * r_dec),
+        leverage: h_ha + h_dec,
+        studentized: sqrt::sqrt((t_ha * t_ha + t_dec * t_dec) / 2.0),
+    }
+}

@@ -1,0 +1,25 @@
+-- `validate::codes_known` meets its contract. Assumes nothing.
+use mathlib.Core.Path.{sym}
+use Rattle.validate.specs.Questions.{codesKnown}
+use Rattle.validate.proofs.Laws.{failed, decides, was-yes, was-no}
+use borrow.Author.Needs.{needs}
+use Rattle.validate.proofs.codes_known.Statement.{statement}
+use Rattle.validate.proofs.codes_known.Tie as tie
+
+codes-below-requires : tie.Need-codes-below-requires
+codes-below-requires c κs = search needs
+
+returns : tie.Need-returns
+unfolding codesKnown
+returns c = sym (failed _ (was-no (c .before .codes-below .ensures) (c .if1 .taken)))
+
+codes-below-requires-2 : tie.Need-codes-below-requires-2
+codes-below-requires-2 c κs = search needs
+
+returns-2 : tie.Need-returns-2
+unfolding codesKnown
+returns-2 c = decides (was-yes (c .before .before .codes-below .ensures) (c .before .if1 .left)) (c .codes-below2 .ensures)
+
+pub codes-known-spec : {M : Type 1} → statement M
+codes-known-spec =
+    tie.close (tie.spec codes-below-requires returns codes-below-requires-2 returns-2)

@@ -1,0 +1,108 @@
+-- The questions of document 01 that a fit is put, in order. Definitions only.
+use Prim.Native.Nat.{ℕ, zero, suc, _+_, _*_, _≤_, _<_}
+use mathlib.Core.Path.{_≡_}
+use mathlib.Core.Bool.{Bool, false, _&&_, cond}
+use mathlib.Core.List.{List, [], _∷_}
+use lib.Dec.{leb, ltb, eqb}
+use lib.ListN.{length, take, drop}
+use Rattle.float.specs.Float.{#0, isFinite}
+use Rattle.sequence.specs.Sequence.{every}
+use Rattle.terms.specs.Names.{readTerm}
+use Rattle.terms.specs.Questions.{ask, firstNo}
+use Rattle.design.specs.Design.{freeCount}
+use Rattle.solver.specs.declared.IterOptions.{IterOptions}
+use Rattle.validate.specs.Call.{Lent, Sizes}
+use Rattle.validate.specs.declared.Asked.{Asked}
+use Rattle.validate.specs.declared.Asked.the-variants.{Pass, No}
+
+-- ---- the questions one by one; m counts the coefficients lent, n the hour-angle differences
+
+-- 1: at most 32 terms and 1,024 stars
+unfoldable pub limits : ℕ → ℕ → Bool
+limits m n = leb m 32 && leb n 1024
+
+-- 2: exactly as many name bytes, flags, declination differences, pier codes and sheet numbers as belong to them
+unfoldable pub counts : ℕ → ℕ → ℕ → ℕ → ℕ → ℕ → ℕ → Bool
+counts names fixed dd pier sheets m n = eqb names (16 * m) && eqb fixed m && eqb dd n && eqb pier n && eqb sheets (37 * n)
+
+-- what scratch needs
+unfoldable pub scratchNeeded : ℕ → ℕ → ℕ
+scratchNeeded m n = (4 * n + 3 * m) * m + 8 * n + 8 * m
+
+-- 3: room in the buffers
+unfoldable pub room : Sizes → ℕ → ℕ → Bool
+room s m n =
+    leb m (s .coefficients) && leb m (s .change) && leb m (s .sigma) && leb (3 * n) (s .diagnostics) && leb (scratchNeeded m n) (s .scratch)
+
+-- 4: every lent float is finite
+unfoldable pub finiteInput : Lent → Bool
+finiteInput l =
+    every isFinite (l .coefficients) && every isFinite (l .dh) && every isFinite (l .dd) && every isFinite (l .sheets)
+    && isFinite (l .sinLat) && isFinite (l .cosLat) && isFinite (l .fitTol)
+
+unfoldable pub finiteOptions : IterOptions → Bool
+finiteOptions o =
+    isFinite (o .«tol_rad») && isFinite (o .«initial_lambda») && isFinite (o .«lambda_up») && isFinite (o .«lambda_down») && isFinite (o .«huber_k»)
+
+-- 5: each pier code 0 to 2, each fixed flag 0 or 1
+unfoldable pub codesKnown : List ℕ → List ℕ → Bool
+codesKnown pier fixed = every (λ c. ltb c 3) pier && every (λ f. ltb f 2) fixed
+
+-- 7 to 10, all put to one name before the next, the lowest slot first: the number of the first no, or 0
+unfoldable pub namesNo : ℕ → List ℕ → ℕ
+namesNo zero names = 0
+namesNo (suc m) names =
+    let no = readTerm (take 16 names) .refusal in
+    let rest = namesNo m (drop 16 names) in
+    cond (eqb no 0) rest no
+
+-- ---- in order
+
+unfoldable pub asked : Lent → IterOptions → Sizes → Asked
+asked l o s =
+    let m = length (l .coefficients) in
+    let n = length (l .dh) in
+    let free = freeCount (l .fixed) in
+    let no = namesNo m (l .names) in
+    firstNo No (Pass free)
+    (ask (limits m n) 1
+    ∷ ask (counts (length (l .names)) (length (l .fixed)) (length (l .dd)) (length (l .pier)) (length (l .sheets)) m n) 2
+    ∷ ask (room s m n) 3
+    ∷ ask (finiteInput l && finiteOptions o) 4
+    ∷ ask (codesKnown (l .pier) (l .fixed)) 5
+    ∷ ask (leb (o .«max_iter») 1000) 6
+    ∷ ask (eqb no 0) no
+    ∷ ask (ltb 0 m) 11
+    ∷ ask (ltb 0 free) 12
+    ∷ ask (leb free n) 13
+    ∷ [])
+
+-- the single step takes no options: these pass questions 4 and 6
+abbrev pub noOptions : IterOptions
+noOptions =
+    record {
+      «max_iter» = 0;
+      «tol_rad» = #0;
+      «initial_lambda» = #0;
+      «lambda_up» = #0;
+      «lambda_down» = #0;
+      robust = false;
+      «huber_k» = #0;
+    }
+
+-- ---- what a fit may count on once its questions are passed
+
+pub record Ready (l : Lent) (s : Sizes) : Type 0 where
+  pub terms : length (l .coefficients) ≤ 32
+  pub stars : length (l .dh) ≤ 1024
+  pub names-count : length (l .names) ≡ 16 * length (l .coefficients)
+  pub fixed-count : length (l .fixed) ≡ length (l .coefficients)
+  pub dd-count : length (l .dd) ≡ length (l .dh)
+  pub pier-count : length (l .pier) ≡ length (l .dh)
+  pub sheets-count : length (l .sheets) ≡ 37 * length (l .dh)
+  pub coefficients-room : length (l .coefficients) ≤ s .coefficients
+  pub change-room : length (l .coefficients) ≤ s .change
+  pub sigma-room : length (l .coefficients) ≤ s .sigma
+  pub diagnostics-room : 3 * length (l .dh) ≤ s .diagnostics
+  pub scratch-room : scratchNeeded (length (l .coefficients)) (length (l .dh)) ≤ s .scratch
+  pub some-free : 0 < freeCount (l .fixed)
