@@ -19,6 +19,8 @@ struct Outcome {
     rank: usize,
     sigma_max: f64,
     sigma_min: f64,
+    inv_s: [f64; 32],
+    order: [usize; 32],
     sweeps: usize,
     settled: bool,
 }
@@ -29,19 +31,26 @@ extern "C" {
     fn pointing_solve_damped(
         w: *mut f64,
         w_len: usize,
+        c: usize,
         h: usize,
         rows: usize,
         m: usize,
-        b: *const f64,
-        b_len: usize,
+        b: usize,
         lambda: f64,
         fit_tol: f64,
-        leverage: *mut f64,
-        leverage_len: usize,
     ) -> Outcome;
+    fn pointing_leverage(
+        w: *const f64,
+        w_len: usize,
+        h: usize,
+        order: *const usize,
+        order_len: usize,
+        r: usize,
+        inv_s: *const [f64; 32],
+    ) -> f64;
 }
 
-/// The columns of a matrix as the library takes them: one after the other, h numbers each.
+/// A scratch as the library takes it: b, then the columns one after the other, h numbers each.
 struct Lent {
     w: Vec<f64>,
     h: usize,
@@ -50,48 +59,49 @@ struct Lent {
 }
 
 impl Lent {
-    fn new(a: &Columns) -> Lent {
+    fn new(a: &Columns, b: &[f64]) -> Lent {
         let (rows, m) = (a[0].len(), a.len());
         let h = rows + 2 * m;
-        let mut w = vec![7.0; h * m + 3];
+        let mut w = vec![7.0; rows + h * m + 3];
+        w[..rows].copy_from_slice(b);
         for (j, column) in a.iter().enumerate() {
-            w[j * h..j * h + rows].copy_from_slice(column);
+            w[rows + j * h..][..rows].copy_from_slice(column);
         }
         Lent { w, h, rows, m }
     }
 
     /// The columns with those of the identity below them.
-    fn with_identity(a: &Columns) -> Lent {
-        let mut lent = Lent::new(a);
+    fn with_identity(a: &Columns, b: &[f64]) -> Lent {
+        let mut lent = Lent::new(a, b);
         for (j, column) in plain::identity(lent.m).iter().enumerate() {
-            let from = j * lent.h + lent.rows;
+            let from = lent.rows + j * lent.h + lent.rows;
             lent.w[from..from + lent.m].copy_from_slice(column);
         }
         lent
     }
 
-    fn factorise(&mut self) -> Sweeps {
-        let (w, len) = (self.w.as_mut_ptr(), self.w.len());
-        unsafe { pointing_factorise(w, len, self.h, self.rows, self.m) }
+    fn columns(&self) -> &[f64] {
+        &self.w[self.rows..]
     }
 
-    fn solve_damped(&mut self, b: &[f64], lambda: f64, fit_tol: f64, lev: &mut [f64]) -> Outcome {
-        assert!(b.len() <= self.rows && lev.len() <= self.rows);
-        unsafe {
-            pointing_solve_damped(
-                self.w.as_mut_ptr(),
-                self.w.len(),
-                self.h,
-                self.rows,
-                self.m,
-                b.as_ptr(),
-                b.len(),
-                lambda,
-                fit_tol,
-                lev.as_mut_ptr(),
-                lev.len(),
-            )
+    fn factorise(&mut self) -> Sweeps {
+        let w = &mut self.w[self.rows..];
+        unsafe { pointing_factorise(w.as_mut_ptr(), w.len(), self.h, self.rows, self.m) }
+    }
+
+    /// The outcome, and the leverage of each row.
+    fn solve_damped(&mut self, lambda: f64, fit_tol: f64, leverage: &mut [f64]) -> Outcome {
+        assert!(leverage.len() <= self.rows);
+        let (w, len) = (self.w.as_mut_ptr(), self.w.len());
+        let (rows, h, m) = (self.rows, self.h, self.m);
+        let r = unsafe { pointing_solve_damped(w, len, rows, h, rows, m, 0, lambda, fit_tol) };
+        let u = self.columns();
+        for (i, l) in leverage.iter_mut().enumerate() {
+            *l = unsafe {
+                pointing_leverage(u.as_ptr(), u.len(), h, r.order.as_ptr(), m, i, &r.inv_s)
+            };
         }
+        r
     }
 }
 
@@ -181,7 +191,7 @@ fn time(random: &mut Random, rows: usize, m: usize, runs: usize) {
     let (mut sweeps, mut damped_sweeps) = (0, 0);
     for _ in 0..runs {
         let (mut u, mut v) = (a.clone(), plain::identity(m));
-        let mut lent = Lent::with_identity(&a);
+        let mut lent = Lent::with_identity(&a, &b);
         let mut made = (0, false);
         factorise.0 = factorise
             .0
@@ -193,19 +203,19 @@ fn time(random: &mut Random, rows: usize, m: usize, runs: usize) {
         factorise.1 = factorise.1.min(seconds(|| ours = lent.factorise()));
         assert_eq!(made, (ours.made, ours.settled));
         for j in 0..m {
-            let column = &lent.w[j * lent.h..];
+            let column = &lent.columns()[j * lent.h..];
             assert!(all_same(&column[..rows], &u[j]) && all_same(&column[rows..rows + m], &v[j]));
         }
         sweeps = made.0;
 
-        let mut lent = Lent::new(&a);
+        let mut lent = Lent::new(&a, &b);
         let mut leverage = vec![9.0; rows];
         let (mut plain, mut ours) = (None, None);
         solve.0 = solve.0.min(seconds(|| {
             plain = Some(plain::solve_damped(&a, &b, 1e-3, 1e-12))
         }));
         solve.1 = solve.1.min(seconds(|| {
-            ours = Some(lent.solve_damped(&b, 1e-3, 1e-12, &mut leverage))
+            ours = Some(lent.solve_damped(1e-3, 1e-12, &mut leverage))
         }));
         let (plain, ours) = (plain.unwrap(), ours.unwrap());
         assert_same(&ours, &leverage, &plain, "timed");
@@ -235,7 +245,7 @@ fn compare(random: &mut Random, cases: u64) {
         let fit_tol = [0.0, 1e-10, 1e-3, -1.0][(k % 4) as usize];
         let plain = plain::solve_damped(&a, &b, lambda, fit_tol);
         let mut leverage = vec![9.0; rows];
-        let ours = Lent::new(&a).solve_damped(&b, lambda, fit_tol, &mut leverage);
+        let ours = Lent::new(&a, &b).solve_damped(lambda, fit_tol, &mut leverage);
         assert_same(&ours, &leverage, &plain, &format!("case {k}"));
         nans += plain.x.iter().any(|x| x.is_nan()) as u32;
         deficient += (plain.rank < m) as u32;

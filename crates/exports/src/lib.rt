@@ -8,7 +8,7 @@ ghost use lib.Ieee.{binary64};
 ghost use Rattle.sqrt.specs.Sqrt as Root;
 ghost use Rattle.sequence.specs.Sequence.{part, Only};
 ghost use Rattle.jacobi.specs.Jacobi.{factorised};
-ghost use Rattle.linalg.specs.Linalg.{solvedDamped};
+ghost use Rattle.linalg.specs.Linalg.{Placed, leverageOf, solvedDamped};
 
 // The square root, correctly rounded.
 #[no_mangle]
@@ -47,4 +47,19 @@ pub extern "C" fn pointing_solve_damped(
         × Only c (m * h) (now (w .entry)) (now (w .exit)) ⌝ }
 {
     linalg::solve_damped(w, c, h, rows, m, b, lambda, fit_tol)
+}
+
+// The leverage of row r, from the columns that a solve left and its order and inverses.
+#[no_mangle]
+pub extern "C" fn pointing_leverage(
+    w: &[f64],
+    h: usize,
+    order: &[usize],
+    r: usize,
+    inv_s: &[f64; 32],
+) -> f64
+    requires { ⌜ Placed h (now w) (now order) × (r < h) ⌝ }
+    ensures { λ t. ⌜ t ≡ leverageOf h (now (w .entry)) (now (order .entry)) (now («inv_s» .entry)) r ⌝ }
+{
+    linalg::leverage(w, h, order, r, inv_s)
 }
