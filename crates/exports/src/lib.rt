@@ -4,8 +4,18 @@
 ghost use mathlib.Core.Path.{_≡_};
 ghost use Prim.Native.Nat.{_+_, _*_, _≤_, _<_};
 ghost use lib.ListN.{length};
+ghost use lib.Ieee.{binary64};
+ghost use Rattle.sqrt.specs.Sqrt as Root;
 ghost use Rattle.jacobi.specs.Jacobi.{factorised};
 ghost use Rattle.linalg.specs.Linalg.{solvedDamped};
+
+// The square root, correctly rounded.
+#[no_mangle]
+pub extern "C" fn pointing_sqrt(x: f64) -> f64
+    ensures { λ r. ⌜ r ≡ Root.sqrt binary64 x ⌝ }
+{
+    sqrt::sqrt(x)
+}
 
 #[no_mangle]
 pub extern "C" fn pointing_factorise(

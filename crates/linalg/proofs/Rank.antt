@@ -5,7 +5,7 @@ use mathlib.Core.List.{List}
 use Prim.Native.Nat.{ℕ, zero, suc, _<_}
 use native.Mathlib.Numerals.{add-one}
 use native.Mathlib.Omega.{arith}
-use lib.Dec.{T, T-not}
+use lib.Dec.{T-not}
 use lib.ListN.{getD}
 use lib.Ieee.{Float, lt, le}
 use Rattle.float.specs.Float.{#0}

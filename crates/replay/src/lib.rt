@@ -14,6 +14,18 @@ pub fn byte() -> u8 {
     b[0]
 }
 
+// A double of standard input.
+pub fn double() -> f64 {
+    let mut b = [0u8; 8];
+    next(&mut b);
+    little_endian::f64_at(&b, 0)
+}
+
+// Whether x is the next double of standard input, in its bits; any NaN is any NaN.
+pub fn same_double(x: f64) -> bool {
+    float::to_bits(x) == float::to_bits(double())
+}
+
 pub fn wide(b: u8) -> usize
     ensures { λ r. ⌜ r < 256 ⌝ }
 {

@@ -202,6 +202,7 @@ pub fn vectors() -> Vectors {
     for slot in &slots {
         stdin.push(slot.len() as u8);
         stdin.extend(slot);
+        stdin.extend(vec![0; 32 - slot.len()]);
     }
     let mut blocks = accepted(random);
     blocks.extend(refused(random));

@@ -1,6 +1,5 @@
 -- `same_components` is safe and ends. Assumes nothing.
 use Prim.Native.Nat.{_≤_, _-_}
-use mathlib.Core.Path.{_≡_, refl}
 use native.Mathlib.Omega.{arith}
 use Rattle.replay_names.proofs.same_components.Statement.{statement}
 use Rattle.replay_names.proofs.same_components.Tie as tie
