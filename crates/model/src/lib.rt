@@ -4,21 +4,20 @@ ghost use mathlib.Core.Path.{_≡_};
 ghost use Rattle.model.specs.Model.{newModel, modelRefusal, addTerm, setCoefficients};
 ghost use Rattle.model.specs.Correction as Def;
 
-pub mod correction;
+mod point;
 mod slots;
 
-use crate::correction::Breakdown;
-use crate::correction::Correction;
-use crate::correction::contributions;
-use crate::correction::corrected;
-use crate::correction::no_breakdown;
-use crate::correction::point_refusal;
+use crate::point::contributions;
+use crate::point::corrected;
+use crate::point::no_breakdown;
+use crate::point::point_refusal;
 use crate::slots::has_name;
 use crate::slots::names_refusal;
 use crate::slots::no_names;
 use crate::slots::no_numbers;
 use crate::slots::with_coefficients;
 use crate::slots::with_name;
+use observation::Pair;
 use observation::PierSide;
 
 // The first count slots of 16 bytes hold the stored names, the first count numbers their coefficients.
@@ -32,6 +31,20 @@ pub struct PointingModel {
 pub struct Changed {
     pub refusal: u8,
     pub model: PointingModel,
+}
+
+pub enum Correction {
+    Given(Pair),
+    // the number of the question
+    Refused(u8),
+}
+
+// Each term's contributions to the hour angle and to the declination, with zeros behind them, and the number of the question that
+// refused, or 0.
+pub struct Breakdown {
+    pub refusal: u8,
+    pub dh: [f64; 32],
+    pub dd: [f64; 32],
 }
 
 impl PointingModel {

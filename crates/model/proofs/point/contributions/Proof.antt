@@ -1,4 +1,4 @@
--- `model::correction::contributions` meets its contract. The invariant: the first i places hold the contributions of the terms passed. Assumes nothing.
+-- `model::point::contributions` meets its contract. The invariant: the first i places hold the contributions of the terms passed. Assumes nothing.
 use Prim.Native.Nat.{_≤_, _-_}
 use mathlib.Core.Path.{_≡_, _∙_, ap, ap₂}
 use mathlib.Core.List.{List}
@@ -12,8 +12,8 @@ use Rattle.model.specs.Correction.{contribution, given, brokenDown}
 use Rattle.model.proofs.Laws.{numbers-length}
 use borrow.Author.Needs.{needs}
 use native.Mathlib.Omega.{arith}
-use Rattle.model.proofs.correction.contributions.Statement.{statement}
-use Rattle.model.proofs.correction.contributions.Tie as tie
+use Rattle.model.proofs.point.contributions.Statement.{statement}
+use Rattle.model.proofs.point.contributions.Tie as tie
 
 abbrev Inv-loop : tie.InvT-loop
 Inv-loop names coefficients count sheet sin-lat cos-lat pier dh₀ dd₀ i₀ dh dd i = (i ≤ count) × (dh ≡ filled i (λ k. contribution names coefficients sheet sin-lat cos-lat pier k .dh) noNumbers) × (dd ≡ filled i (λ k. contribution names coefficients sheet sin-lat cos-lat pier k .dd) noNumbers)
