@@ -1,18 +1,19 @@
--- Places that were filled, and sums of equal numbers. Assumes nothing.
-use Prim.Native.Nat.{ℕ, zero, suc, _≤_, _<_}
+-- Places that were filled, sums of equal numbers, and a test of one element more. Assumes nothing.
+use Prim.Native.Nat.{ℕ, zero, suc, _<_}
 use native.Mathlib.Nat.{le-antisymm}
 use native.Mathlib.Omega.{arith}
 use mathlib.Core.Path.{_≡_, refl, sym, _∙_, ap, ap₂}
 use mathlib.Core.Bool.{Bool, true, false}
-use mathlib.Core.List.{List, [], _∷_}
+use mathlib.Core.List.{List, [], _∷_, _++_}
 use borrow.Author.Tests.{ltb-true, ltb-false}
 use lib.Dec.{ltb}
-use lib.ListN.{length, getD, take, drop, List·getD-append}
+use lib.ListN.{length, take, drop, List·getD-append}
 use lib.Seq.{getD-at, take-at, ext-getD}
-use lib.Ieee.{Float, nan}
-use Rattle.float.specs.Float.{_⊕_}
-use Rattle.sequence.specs.Sequence.{at, table, filled, sumTo}
+use lib.Ieee.{Float, nan, ofBits}
+use Rattle.float.specs.Float.{#0, _⊕_, isFinite}
+use Rattle.sequence.specs.Sequence.{every, at, table, filled, sumTo}
 use Rattle.sequence.proofs.Fills.{table-length}
+use Rattle.terms.proofs.Both.{left-of, right-of}
 
 -- an index below n + 1 is below n or n itself
 pub last-or : {A : Type 0} (i n : ℕ) → i < suc n → (i < n → A) → (i ≡ n → A) → A
@@ -45,3 +46,11 @@ pub sum-same : (n : ℕ) (f g : ℕ → Float) → ((i : ℕ) → i < n → f i 
 unfolding sumTo
 sum-same zero f g e = refl
 sum-same (suc n) f g e = ap₂ (λ (x y : Float). x ⊕ y) (sum-same n f g (λ i h. e i (omega arith))) (e n (omega arith))
+
+pub every-snoc : {A : Type 0} (p : A → Bool) (l : List A) (x : A) → every p l ≡ true → p x ≡ true → every p (l ++ (x ∷ [])) ≡ true
+every-snoc p [] x e h = rw h
+every-snoc p (y ∷ l) x e h = rw (left-of (p y) (every p l) e, every-snoc p l x (right-of (p y) (every p l) e) h)
+
+pub zero-finite : isFinite #0 ≡ true
+unfolding isFinite ofBits
+zero-finite = refl
