@@ -74,21 +74,26 @@ fn same_numbers(numbers: &[f64]) -> bool {
     same
 }
 
+// A count as the oracle writes it.
+fn written(count: usize) -> usize {
+    if 255 < count { 255 } else { count }
+}
+
 // Whether the oracle's next model is this one.
 fn same_model(m: PointingModel) -> bool {
     let names = m.names;
     let coefficients = m.coefficients;
     let count = m.count;
-    let shown = replay::wide(replay::byte());
+    let same_count = replay::wide(replay::byte()) == written(count);
     if 32 < count {
-        let held = same_names(&names);
-        let held_too = same_numbers(&coefficients);
-        return held && held_too && (shown == 255 || shown == count);
+        let all = same_names(&names);
+        let all_too = same_numbers(&coefficients);
+        return same_count && all && all_too;
     }
     let n = 16 * count;
     let same = same_names(&names[..n]);
     let same_too = same_numbers(&coefficients[..count]);
-    same && same_too && shown == count
+    same_count && same && same_too
 }
 
 // Counts a call that gave a number of a question, or 0.
