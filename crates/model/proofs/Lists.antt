@@ -1,0 +1,56 @@
+-- Places that were filled, sums of equal numbers, and a test of one element more. Assumes nothing.
+use Prim.Native.Nat.{ℕ, zero, suc, _<_}
+use native.Mathlib.Nat.{le-antisymm}
+use native.Mathlib.Omega.{arith}
+use mathlib.Core.Path.{_≡_, refl, sym, _∙_, ap, ap₂}
+use mathlib.Core.Bool.{Bool, true, false}
+use mathlib.Core.List.{List, [], _∷_, _++_}
+use borrow.Author.Tests.{ltb-true, ltb-false}
+use lib.Dec.{ltb}
+use lib.ListN.{length, take, drop, List·getD-append}
+use lib.Seq.{getD-at, take-at, ext-getD}
+use lib.Ieee.{Float, nan, ofBits}
+use Rattle.float.specs.Float.{#0, _⊕_, isFinite}
+use Rattle.sequence.specs.Sequence.{every, at, table, filled, sumTo}
+use Rattle.sequence.proofs.Fills.{table-length}
+use Rattle.terms.proofs.Both.{left-of, right-of}
+
+-- an index below n + 1 is below n or n itself
+pub last-or : {A : Type 0} (i n : ℕ) → i < suc n → (i < n → A) → (i ≡ n → A) → A
+last-or {A} i n h f g = by (ltb i n) refl
+  where
+    by : (t : Bool) → ltb i n ≡ t → A
+    by true l = f (ltb-true i n l)
+    by false l = g (le-antisymm (omega arith) (ltb-false i n l))
+
+module _ (f : ℕ → Float) where
+  getD-table : (n i : ℕ) → i < n → at (table n f) i ≡ f i
+  unfolding table
+  getD-table zero i h = absurd (omega arith)
+  getD-table (suc n) i h =
+      last-or i n h (λ g. List·getD-append (table n f) (f n ∷ []) nan i (omega (arith, table-length f n)) ∙ getD-table n i g)
+      (λ e. getD-at (table n f) (f n) [] nan i (table-length f n ∙ sym e) ∙ ap f (sym e))
+
+  pub at-filled : (n i : ℕ) (d : List Float) → i < n → at (filled n f d) i ≡ f i
+  unfolding filled
+  at-filled n i d h = List·getD-append (table n f) (drop n d) nan i (omega (arith, table-length f n)) ∙ getD-table n i h
+
+-- the front that was filled from a list is the list
+pub front-filled : (cs d : List Float) → take (length cs) (filled (length cs) (at cs) d) ≡ cs
+unfolding filled
+front-filled cs d =
+    take-at (table (length cs) (at cs)) (drop (length cs) d) (length cs) (table-length (at cs) (length cs))
+    ∙ ext-getD nan (table (length cs) (at cs)) cs (table-length (at cs) (length cs)) (λ i h. getD-table (at cs) (length cs) i (omega (arith, table-length (at cs) (length cs))))
+
+pub sum-same : (n : ℕ) (f g : ℕ → Float) → ((i : ℕ) → i < n → f i ≡ g i) → sumTo n f ≡ sumTo n g
+unfolding sumTo
+sum-same zero f g e = refl
+sum-same (suc n) f g e = ap₂ (λ (x y : Float). x ⊕ y) (sum-same n f g (λ i h. e i (omega arith))) (e n (omega arith))
+
+pub every-snoc : {A : Type 0} (p : A → Bool) (l : List A) (x : A) → every p l ≡ true → p x ≡ true → every p (l ++ (x ∷ [])) ≡ true
+every-snoc p [] x e h = rw h
+every-snoc p (y ∷ l) x e h = rw (left-of (p y) (every p l) e, every-snoc p l x (right-of (p y) (every p l) e) h)
+
+pub zero-finite : isFinite #0 ≡ true
+unfolding isFinite ofBits
+zero-finite = refl

@@ -1,0 +1,355 @@
+// Replays the oracle's sequences of calls of a model. Standard input holds sheets, then calls, each with what the Rust made of it
+// (oracle/README.md has the format); the counts and the number of answers that differ are written out.
+
+ghost use mathlib.Core.Path.{_≡_};
+ghost use Prim.Native.Nat.{_≤_, _<_};
+ghost use lib.ListN.{length};
+use model::Breakdown;
+use model::Changed;
+use model::Correction;
+use model::PointingModel;
+
+struct Tally {
+    calls: u64,
+    models: u64,
+    added: u64,
+    equal: u64,
+    refused: [u64; 16],
+    different: u64,
+}
+
+// The current model and the counts.
+struct Step {
+    more: bool,
+    tally: Tally,
+    model: PointingModel,
+}
+
+// What a correction is lent beside its sheet.
+struct Place {
+    sin_lat: f64,
+    cos_lat: f64,
+    pier: u8,
+}
+
+// Two bytes of standard input.
+fn pair() -> usize
+    ensures { λ r. ⌜ r < 65536 ⌝ }
+{
+    let mut b = [0u8; 2];
+    replay::next(&mut b);
+    let low = replay::wide(b[0]);
+    let high = replay::wide(b[1]);
+    low + 256 * high
+}
+
+// The next l doubles of standard input, into the front of numbers.
+fn read_numbers(numbers: &mut [f64], l: usize)
+    requires { ⌜ l ≤ length (now numbers) ⌝ }
+{
+    for i in 0..l {
+        numbers[i] = replay::double();
+    }
+}
+
+// Whether the oracle's next bytes are these.
+fn same_names(names: &[u8]) -> bool {
+    let mut same = true;
+    for i in 0..names.len() {
+        if replay::byte() != names[i] {
+            same = false;
+        }
+    }
+    same
+}
+
+// Whether the oracle's next doubles are these.
+fn same_numbers(numbers: &[f64]) -> bool {
+    let mut same = true;
+    for i in 0..numbers.len() {
+        if !replay::same_double(numbers[i]) {
+            same = false;
+        }
+    }
+    same
+}
+
+// A count as the oracle writes it.
+fn written(count: usize) -> usize {
+    if 255 < count { 255 } else { count }
+}
+
+// Whether the oracle's next model is this one.
+fn same_model(m: PointingModel) -> bool {
+    let names = m.names;
+    let coefficients = m.coefficients;
+    let count = m.count;
+    let same_count = replay::wide(replay::byte()) == written(count);
+    if 32 < count {
+        let all = same_names(&names);
+        let all_too = same_numbers(&coefficients);
+        return same_count && all && all_too;
+    }
+    let n = 16 * count;
+    let same = same_names(&names[..n]);
+    let same_too = same_numbers(&coefficients[..count]);
+    same_count && same && same_too
+}
+
+// Counts a call that gave a number of a question, or 0.
+fn count(mut t: Tally, refusal: u8, same: bool) -> Tally {
+    t.calls = replay::more(t.calls);
+    if refusal != 0 {
+        let k = (refusal % 16) as usize;
+        t.refused[k] = replay::more(t.refused[k]);
+    }
+    if !same {
+        t.different = replay::more(t.different);
+    }
+    t
+}
+
+// A changed model, held against the oracle's.
+fn changed(t: Tally, r: Changed) -> Step {
+    let m = r.model;
+    let same_refusal = replay::byte() == r.refusal;
+    let same = same_model(m);
+    let tally = count(t, r.refusal, same_refusal && same);
+    Step {
+        more: true,
+        tally: tally,
+        model: m,
+    }
+}
+
+// A call of `add_term` with the first k bytes of a slot.
+fn add(mut t: Tally, m: PointingModel, slot: &mut [u8], k: usize) -> Step
+    requires { ⌜ k ≤ length (now slot) ⌝ }
+{
+    replay::next(&mut slot[..k]);
+    let before = m.count;
+    let r = m.add_term(&slot[..k]);
+    let after = r.model;
+    if r.refusal == 0 {
+        if before < after.count {
+            t.added = replay::more(t.added);
+        } else {
+            t.equal = replay::more(t.equal);
+        }
+    }
+    changed(t, r)
+}
+
+// A call of `set_coefficients` with the next c doubles.
+fn set(t: Tally, m: PointingModel, numbers: &mut [f64], c: usize) -> Step
+    requires { ⌜ c ≤ length (now numbers) ⌝ }
+{
+    read_numbers(numbers, c);
+    let r = m.set_coefficients(&numbers[..c]);
+    changed(t, r)
+}
+
+// A correction, held against the oracle's.
+fn corrected(t: Tally, ours: Correction) -> Tally {
+    let expected = replay::byte();
+    match ours {
+        Correction::Refused(k) => count(t, k, k == expected),
+        Correction::Given(p) => {
+            if expected != 0 {
+                return count(t, 0, false);
+            }
+            let same_h = replay::same_double(p.dh);
+            let same_d = replay::same_double(p.dd);
+            count(t, 0, same_h && same_d)
+        }
+    }
+}
+
+// A breakdown of a model of n terms, held against the oracle's.
+fn broken_down(t: Tally, ours: Breakdown, n: usize) -> Tally {
+    let refusal = ours.refusal;
+    let dh = ours.dh;
+    let dd = ours.dd;
+    let mut same = replay::byte() == refusal;
+    if refusal != 0 {
+        return count(t, refusal, same);
+    }
+    for i in 0..32usize {
+        if i < n {
+            if !replay::same_double(dh[i]) {
+                same = false;
+            }
+            if !replay::same_double(dd[i]) {
+                same = false;
+            }
+        }
+    }
+    count(t, 0, same)
+}
+
+// A call of `apply_equatorial` or, at code 4, of `predict_breakdown`.
+fn at_point(t: Tally, m: PointingModel, sheet: &[f64], p: Place, op: u8) -> Tally {
+    if op == 4 {
+        let b = m.predict_breakdown(sheet, p.sin_lat, p.cos_lat, p.pier);
+        return broken_down(t, b, m.count);
+    }
+    corrected(t, m.apply_equatorial(sheet, p.sin_lat, p.cos_lat, p.pier))
+}
+
+// The same with l numbers from sheet a on.
+fn point(t: Tally, m: PointingModel, sheets: &[f64], op: u8) -> Tally {
+    let l = replay::wide(replay::byte());
+    let from = 37 * pair();
+    let sin_lat = replay::double();
+    let cos_lat = replay::double();
+    let pier = replay::byte();
+    let p = Place {
+        sin_lat: sin_lat,
+        cos_lat: cos_lat,
+        pier: pier,
+    };
+    if sheets.len() < from + l {
+        return count(t, 0, false);
+    }
+    at_point(t, m, &sheets[from..from + l], p, op)
+}
+
+// A model made by hand.
+fn by_hand() -> PointingModel {
+    let m = PointingModel::new();
+    let mut names = m.names;
+    let mut coefficients = m.coefficients;
+    let count = pair();
+    replay::next(&mut names);
+    read_numbers(&mut coefficients, 32);
+    PointingModel {
+        names: names,
+        coefficients: coefficients,
+        count: count,
+    }
+}
+
+fn numbers_room() -> [f64; 256]
+    ensures { λ r. ⌜ 256 ≡ length r ⌝ }
+{
+    [0.0; 256]
+}
+
+// A call of code 1 to 4; any other code is a difference.
+fn call(t: Tally, m: PointingModel, sheets: &[f64], op: u8) -> Step {
+    if op == 1 {
+        let mut slot = [0u8; 256];
+        let k = replay::wide(replay::byte());
+        return add(t, m, &mut slot, k);
+    }
+    if op == 2 {
+        let mut numbers = numbers_room();
+        let c = replay::wide(replay::byte());
+        return set(t, m, &mut numbers, c);
+    }
+    let mut tally = t;
+    if op == 3 || op == 4 {
+        tally = point(t, m, sheets, op);
+    } else {
+        tally.different = replay::more(tally.different);
+    }
+    Step {
+        more: true,
+        tally: tally,
+        model: m,
+    }
+}
+
+// One record: a new model (0), one made by hand (5), or a call.
+fn record(mut t: Tally, m: PointingModel, sheets: &[f64]) -> Step {
+    let mut head = [0u8; 1];
+    if !replay::next(&mut head) {
+        return Step {
+            more: false,
+            tally: t,
+            model: m,
+        };
+    }
+    let op = head[0];
+    if op == 0 {
+        let fresh = PointingModel::new();
+        t.models = replay::more(t.models);
+        return Step {
+            more: true,
+            tally: t,
+            model: fresh,
+        };
+    }
+    if op == 5 {
+        let made = by_hand();
+        t.models = replay::more(t.models);
+        return Step {
+            more: true,
+            tally: t,
+            model: made,
+        };
+    }
+    call(t, m, sheets, op)
+}
+
+fn report(t: Tally) {
+    replay::line(b"calls", t.calls);
+    replay::line(b"models", t.models);
+    replay::line(b"added", t.added);
+    replay::line(b"equal", t.equal);
+    replay::refused(1, t.refused[1]);
+    replay::refused(2, t.refused[2]);
+    replay::refused(4, t.refused[4]);
+    replay::refused(5, t.refused[5]);
+    replay::refused(7, t.refused[7]);
+    replay::refused(8, t.refused[8]);
+    replay::refused(9, t.refused[9]);
+    replay::refused(10, t.refused[10]);
+    replay::refused(14, t.refused[14]);
+    replay::line(b"different", t.different);
+}
+
+// All records.
+fn records(sheets: &[f64]) {
+    let mut t = Tally {
+        calls: 0,
+        models: 0,
+        added: 0,
+        equal: 0,
+        refused: [0; 16],
+        different: 0,
+    };
+    let mut m = PointingModel::new();
+    let mut more = true;
+    let mut turns = u64::MAX;
+    while turns > 0 && more {
+        let s = record(t, m, sheets);
+        t = s.tally;
+        m = s.model;
+        more = s.more;
+        turns -= 1;
+    }
+    report(t);
+}
+
+// The sheets, and all records.
+fn run(sheets: &mut [f64], k: usize)
+    requires { ⌜ (k ≤ 400) × (16384 ≤ length (now sheets)) ⌝ }
+{
+    read_numbers(sheets, 37 * k);
+    records(sheets);
+}
+
+fn sheets_room() -> [f64; 16384]
+    ensures { λ r. ⌜ 16384 ≡ length r ⌝ }
+{
+    [0.0; 16384]
+}
+
+fn main() {
+    let mut sheets = sheets_room();
+    let k = pair();
+    if k <= 400 {
+        run(&mut sheets, k);
+    }
+}
