@@ -1,9 +1,7 @@
 //! `replay_files`: listings of whole and damaged files.
 
 use super::random::Random;
-use super::runs::{
-    still, Case, Maker, Pool, ITERATED, NAMES, NOT_FINITE, REFUSED_NAMES, ROBUST, SINGLE,
-};
+use super::runs::{still, Case, Maker, Pool, ITERATED, NAMES, ROBUST, SINGLE};
 use super::Vectors;
 use oracle::pmf::{file, file_size, listing};
 
@@ -11,6 +9,16 @@ const MODES: [u8; 3] = [SINGLE, ITERATED, ROBUST];
 const HEADER: usize = 9;
 /// Questions whose "no" a file's fields can have.
 const ASKED: [u8; 10] = [4, 5, 6, 7, 8, 9, 10, 11, 12, 13];
+
+/// The infinities, several NaN and the largest number.
+const PATTERNS: [u64; 6] = [
+    0x7ff0_0000_0000_0000,
+    0xfff0_0000_0000_0000,
+    0x7ff8_0000_0000_0000,
+    0x7ff0_0000_0000_0001,
+    0xffff_ffff_ffff_ffff,
+    0x7fef_ffff_ffff_ffff,
+];
 
 #[derive(Default)]
 struct Records {
@@ -133,8 +141,8 @@ fn damaged(records: &mut Records, maker: &mut Maker) {
             }
         }
         for at in doubles(2, 2) {
-            for number in NOT_FINITE {
-                records.change(at, &number.to_le_bytes());
+            for bits in PATTERNS {
+                records.change(at, &bits.to_le_bytes());
             }
             let number = maker.random.finite();
             records.change(at, &number.to_le_bytes());
@@ -190,6 +198,10 @@ fn limits(records: &mut Records, maker: &mut Maker) {
         assert_eq!(records.base.len(), file_size(m, n));
         records.cut(HEADER);
         records.append(1);
+        // mark, version and mode come before the limits
+        for at in [0, 1, 2, 3, 4, 6] {
+            records.change(at, &[2]);
+        }
     }
     // longer than any good file
     let mut long = bytes(maker, &still(SINGLE, &[-10.0]));
@@ -222,37 +234,12 @@ fn regimes(records: &mut Records, maker: &mut Maker) {
     }
 }
 
-/// Each question's "no", and two or more at once, in each mode.
+/// Fields that the questions refuse, in each mode: also options that mode 0 doesn't take.
 fn refusals(records: &mut Records, maker: &mut Maker) {
-    let mut count = 0;
-    let mut add = |maker: &mut Maker, change: &mut dyn FnMut(&mut Maker, &mut Case)| {
-        count += 1;
-        // an option that isn't finite is a fault in every mode
-        let mut case = maker.real(ITERATED, 3, 3);
-        change(maker, &mut case);
-        case.mode = MODES[count % 3];
+    let cases = maker.refusals(&[ITERATED], &ASKED);
+    for (i, mut case) in cases.into_iter().enumerate() {
+        case.mode = MODES[i % 3];
         records.whole(bytes(maker, &case));
-    };
-    for (_, names) in REFUSED_NAMES {
-        for name in names {
-            add(maker, &mut |maker, case| {
-                let j = maker.random.below(case.m());
-                case.set_name(j, name);
-            });
-        }
-    }
-    for (i, &first) in ASKED.iter().enumerate() {
-        for _ in 0..3 {
-            add(maker, &mut |maker, case| maker.fault(case, first));
-        }
-        for &second in &ASKED[i + 1..] {
-            add(maker, &mut |maker, case| {
-                maker.both_faults(case, first, second)
-            });
-        }
-    }
-    for _ in 0..60 {
-        add(maker, &mut |maker, case| maker.faults(case, &ASKED));
     }
 }
 

@@ -2,11 +2,10 @@
 
 use super::fits::Records;
 use super::random::Random;
-use super::runs::{
-    still, Case, Maker, Pool, ITERATED, NAMES, NOT_FINITE, OTHER, REFUSED_NAMES, ROBUST, ROTATIONAL,
-};
+use super::runs::{still, Case, Maker, Pool, ITERATED, NAMES, OTHER, ROBUST, ROTATIONAL};
 use super::Vectors;
 
+const MODES: [u8; 2] = [ITERATED, ROBUST];
 const ASKED: [u8; 13] = [1, 2, 3, 4, 5, 6, 7, 8, 9, 10, 11, 12, 13];
 
 const TOLERANCES: [f64; 10] = [1e-6, 1e-6, 1e-4, 0.0, -0.0, -1.0, 1e-12, 1e-9, 1.0, 1e300];
@@ -48,7 +47,7 @@ fn choose_options(maker: &mut Maker, case: &mut Case) {
 }
 
 fn mode(maker: &mut Maker) -> u8 {
-    maker.random.pick(&[ITERATED, ROBUST])
+    maker.random.pick(&MODES)
 }
 
 /// A few stars far out, or seen from the other pier side than was noted.
@@ -128,7 +127,7 @@ fn regime(maker: &mut Maker) -> Case {
 
 /// Document 01's file case with max_iter 0, and its stars with other limits.
 fn documented(out: &mut Vec<Case>) {
-    for mode in [ITERATED, ROBUST] {
+    for mode in MODES {
         for max_iter in [0, 1, 2, 50, 1000, 1001] {
             for dd in [
                 &[-10.0][..],
@@ -143,12 +142,25 @@ fn documented(out: &mut Vec<Case>) {
     }
 }
 
+/// An undamped first step of exactly 10 arcseconds, with the tolerance at its norm and next to it.
+fn at_tolerance(out: &mut Vec<Case>) {
+    let norm = 10.0_f64 / 206_264.806_247;
+    for tol_rad in [norm.next_down(), norm, norm.next_up()] {
+        for mode in MODES {
+            let mut case = still(mode, &[-10.0]);
+            case.options.initial_lambda = 0.0;
+            case.options.tol_rad = tol_rad;
+            out.push(case);
+        }
+    }
+}
+
 /// Each value of each option alone, on the same kind of run.
 fn each_option(maker: &mut Maker, out: &mut Vec<Case>) {
     let lists: [&[f64]; 5] = [&TOLERANCES, &DAMPINGS, &FACTORS_UP, &FACTORS_DOWN, &HUBER];
     for (sort, list) in lists.into_iter().enumerate() {
         for &value in list {
-            for mode in [ITERATED, ROBUST] {
+            for mode in MODES {
                 let mut case = outliers(maker, mode);
                 let options = &mut case.options;
                 *[
@@ -167,7 +179,7 @@ fn each_option(maker: &mut Maker, out: &mut Vec<Case>) {
 /// Small runs that go to a limit of 1,000 or near it, and one at the limits of m and n.
 fn long(maker: &mut Maker, out: &mut Vec<Case>) {
     for (i, up) in [1.0, 0.5, -1.0, 0.0, 1.01, 1.0].into_iter().enumerate() {
-        for mode in [ITERATED, ROBUST] {
+        for mode in MODES {
             let mut case = maker.real_of(mode, &["IH", "ID"][..1 + i % 2], 3);
             case.options.max_iter = 1000;
             case.options.tol_rad = 0.0;
@@ -207,62 +219,19 @@ fn regimes(maker: &mut Maker, out: &mut Vec<Case>) {
     for _ in 0..8 {
         let mode = mode(maker);
         out.push(maker.tight(mode, 1));
-    }
-}
-
-/// Each question's "no" in each of its ways.
-fn refusals(maker: &mut Maker, out: &mut Vec<Case>) {
-    let mut add = |maker: &mut Maker, change: &mut dyn FnMut(&mut Maker, &mut Case)| {
-        let mode = mode(maker);
-        let mut case = maker.real(mode, 4, 5);
-        change(maker, &mut case);
-        out.push(case);
-    };
-    for sort in 0..5 {
-        for by in [-1, 1] {
-            add(maker, &mut |maker, case| maker.fault_length(case, sort, by));
-        }
-        add(maker, &mut |_, case| {
-            case.places[sort] = case.required()[sort] - 1;
-        });
-    }
-    for number in NOT_FINITE {
-        for sort in 0..12 {
-            add(maker, &mut |maker, case| {
-                maker.fault_float(case, sort, number)
-            });
-        }
-    }
-    for (_, names) in REFUSED_NAMES {
-        for name in names {
-            add(maker, &mut |maker, case| {
-                let j = maker.random.below(case.m());
-                case.set_name(j, name);
-            });
-        }
-    }
-    for (i, &first) in ASKED.iter().enumerate() {
-        for _ in 0..4 {
-            add(maker, &mut |maker, case| maker.fault(case, first));
-        }
-        for &second in &ASKED[i + 1..] {
-            add(maker, &mut |maker, case| {
-                maker.both_faults(case, first, second)
-            });
-        }
-    }
-    for _ in 0..200 {
-        add(maker, &mut |maker, case| maker.faults(case, &ASKED));
+        out.push(maker.restless(mode));
     }
 }
 
 fn cases(maker: &mut Maker) -> Vec<Case> {
     let mut out = Vec::new();
     documented(&mut out);
+    at_tolerance(&mut out);
     each_option(maker, &mut out);
     long(maker, &mut out);
     regimes(maker, &mut out);
-    refusals(maker, &mut out);
+    out.extend(maker.shape_refusals(&MODES));
+    out.extend(maker.refusals(&MODES, &ASKED));
     out
 }
 
@@ -277,6 +246,7 @@ pub fn vectors() -> Vectors {
     for case in &cases {
         records.add(case);
     }
+    assert!(records.compared > 10_000);
     records.vectors("replay_iterated", &ASKED.map(usize::from), true)
 }
 

@@ -1,6 +1,7 @@
 //! The stored vectors: for each replay program its standard input and what it prints.
 
 pub mod angles;
+pub mod faults;
 pub mod files;
 pub mod fits;
 pub mod iterated;

@@ -1,7 +1,8 @@
 //! `replay_model`: sequences of calls on a model.
 
+use super::faults::REFUSED_NAMES;
 use super::random::{Random, EXTREME};
-use super::runs::{slot, Pool, NAMES, NOT_FINITE, REFUSED_NAMES};
+use super::runs::{slot, Pool, NAMES, NOT_FINITE};
 use super::{angles, put_doubles, Vectors};
 use oracle::questions::{
     add_term, apply_equatorial, predict_breakdown, set_coefficients, Model, Point, MAX_TERMS, NAME,
@@ -203,7 +204,7 @@ impl Calls {
 
     /// A name that questions 7 to 10 refuse, or a slot that 2 does, with such a name or a good one.
     fn refused_name(&mut self) {
-        let names = self.random.pick(&REFUSED_NAMES).1;
+        let names = self.random.pick(&REFUSED_NAMES);
         let mut slot = slot(self.random.pick(names)).to_vec();
         if self.random.below(3) == 0 {
             let len = self.random.pick(&[0, 1, 8, 15, 17, 32]);
@@ -299,7 +300,7 @@ impl Calls {
             if self.random.below(3) == 0 {
                 model.coefficients[j] = self.random.pick(&NOT_FINITE);
             } else {
-                let names = self.random.pick(&REFUSED_NAMES).1;
+                let names = self.random.pick(&REFUSED_NAMES);
                 model.names[j] = slot(self.random.pick(names));
             }
         }
@@ -319,9 +320,12 @@ impl Calls {
         let numbers = self.numbers(count);
         self.set(&numbers);
         self.set(&[f64::NAN]);
-        let place = self.place();
+        let mut place = self.real_place();
         self.at(&place);
-        let place = self.real_place();
+        let faults = self.random.within(1, 3);
+        self.fault(&mut place, faults);
+        self.at(&place);
+        let place = self.place();
         self.at(&place);
     }
 

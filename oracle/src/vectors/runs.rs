@@ -1,5 +1,4 @@
-//! Runs for the fits and the file program: a pool of sheets, runs that take their sheets from it,
-//! and faults.
+//! Runs for the fits and the file program: a pool of sheets, and runs that take their sheets from it.
 
 use super::angles;
 use super::random::{Random, EXTREME};
@@ -27,6 +26,8 @@ pub struct Pool {
     /// Real but for cos dec: 0, -0 or next to it.
     pub polar: Range<usize>,
     pub extreme: Range<usize>,
+    /// Real but for cos h near 1 and a sin dec whose square vanishes.
+    pub restless: Range<usize>,
     /// A NaN or an infinity at each place.
     pub refused: Range<usize>,
 }
@@ -85,6 +86,13 @@ impl Pool {
         }
         sheets.extend(extreme_sheets(random));
         let extreme = real + 9..sheets.len();
+        for _ in 0..8 {
+            let mut sheet = real_sheet(random);
+            sheet[1] = 1.0 + random.unit() / 4.0;
+            sheet[18] = 1.5e-162 * (1.0 + random.unit() / 32.0);
+            sheets.push(sheet);
+        }
+        let restless = extreme.end..sheets.len();
         for place in 0..SHEET {
             let mut sheet = real_sheet(random);
             sheet[place] = NOT_FINITE[place % 3];
@@ -93,8 +101,9 @@ impl Pool {
         Self {
             real: 1..real + 1,
             polar: real + 1..real + 9,
-            refused: extreme.end..sheets.len(),
+            refused: restless.end..sheets.len(),
             extreme,
+            restless,
             sheets,
         }
     }
@@ -498,6 +507,18 @@ impl Maker<'_> {
         case
     }
 
+    /// A column whose squares vanish beside one of size 1: the factorisation makes 30 sweeps.
+    pub fn restless(&mut self, mode: u8) -> Case {
+        let names = self.random.pick(&[["FO", "DCES"], ["dces", "FO"]]);
+        let n = self.random.within(5, 8);
+        let mut case = self.real_of(mode, &names, n);
+        case.run.fixed.fill(0);
+        for i in 0..n {
+            case.sheets[i] = self.place(self.pool.restless.clone());
+        }
+        case
+    }
+
     /// As many stars as free terms, or one fewer.
     pub fn tight(&mut self, mode: u8, fewer: usize) -> Case {
         let mut case = self.real(mode, 6, 6);
@@ -507,175 +528,3 @@ impl Maker<'_> {
         case
     }
 }
-
-/// Names that questions 7 to 10 refuse.
-pub const REFUSED_NAMES: [(u8, &[&[u8]]); 4] = [
-    (
-        7,
-        &[
-            b"",
-            b"I\xc9",
-            b"I\0H",
-            b"\0IH",
-            b"\xff",
-            b"TX\0\0\0\0\0\0\0\0\0\0\0\0\0\x01",
-        ],
-    ),
-    (8, &[b"IA", b"ie", b"CA", b"NPAE", b"an", b"Aw"]),
-    (
-        9,
-        &[
-            b"QQ",
-            b"TX0",
-            b"TX256",
-            b"TX+",
-            b"I H",
-            b"\x7f",
-            b"DCE",
-            b"ABCDEFGHIJKLMNOP",
-        ],
-    ),
-    (
-        10,
-        &[
-            b"H",
-            b"HHS",
-            b"HHSH0",
-            b"HHSH12",
-            b"hq",
-            b"HCES1",
-            b"HHSHCDSHCDSHCDS0",
-        ],
-    ),
-];
-
-impl Maker<'_> {
-    /// A fault that question `number` finds; several may be put one after the other, those that
-    /// change a case's shape first (see `SHAPE_FIRST`).
-    pub fn fault(&mut self, case: &mut Case, number: u8) {
-        let (m, n) = (case.m(), case.n());
-        match number {
-            1 => self.fault_count(case),
-            2 => {
-                let sort = self.random.below(5);
-                let by = self.random.pick(&[-1, 1, -1, 1, 16]);
-                self.fault_length(case, sort, by);
-            }
-            3 => {
-                let buffer = self.random.below(5);
-                let least = case.required()[buffer];
-                case.places[buffer] = self.random.pick(&[least.saturating_sub(1), 0, least / 2]);
-            }
-            4 => {
-                let sorts = if case.mode == SINGLE { 7 } else { 12 };
-                let sort = self.random.below(sorts);
-                let number = self.random.pick(&NOT_FINITE);
-                self.fault_float(case, sort, number);
-            }
-            5 if self.random.flip() && n > 0 && !case.run.piers.is_empty() => {
-                let i = self.random.below(case.run.piers.len());
-                case.run.piers[i] = self.random.pick(&[3, 4, 128, 255]);
-            }
-            5 if !case.run.fixed.is_empty() => {
-                let j = self.random.below(case.run.fixed.len());
-                case.run.fixed[j] = self.random.pick(&[2, 3, 255]);
-            }
-            6 => case.options.max_iter = self.random.pick(&[1001, 1002, 65535]),
-            7..=10 if !case.run.names.is_empty() => {
-                let names = REFUSED_NAMES[number as usize - 7].1;
-                let name = self.random.pick(names);
-                let slots = case.run.names.len() / NAME;
-                case.set_name(self.random.below(slots), name);
-            }
-            11 => case.resize_terms(0),
-            12 => case.run.fixed.fill(1),
-            13 => case.resize_stars(m.saturating_sub(1)),
-            _ => {}
-        }
-        if matches!(number, 1 | 11 | 13) {
-            self.places(case);
-        }
-    }
-
-    /// Too many terms: whole, or coefficients alone.
-    fn fault_count(&mut self, case: &mut Case) {
-        let m = self.random.within(33, 40);
-        if self.random.flip() {
-            case.resize_terms(m);
-        } else {
-            case.run.coefficients.resize(m, 1.0);
-        }
-    }
-
-    /// Another number of name bytes, flags, declination differences, pier codes or sheet numbers.
-    pub fn fault_length(&mut self, case: &mut Case, sort: usize, by: isize) {
-        let to = |len: usize| len.saturating_add_signed(by);
-        let run = &mut case.run;
-        match sort {
-            0 => run.names.resize(to(run.names.len()), 0),
-            1 => run.fixed.resize(to(run.fixed.len()), 0),
-            2 => run.dd.resize(to(run.dd.len()), 1.0),
-            3 => run.piers.resize(to(run.piers.len()), 1),
-            _ => case.resize_sheets(to(case.sheet_numbers)),
-        }
-    }
-
-    /// A number that isn't finite in a slice, a scalar or an option.
-    pub fn fault_float(&mut self, case: &mut Case, sort: usize, number: f64) {
-        let random = &mut self.random;
-        let run = &mut case.run;
-        let slice = match sort {
-            0 => &mut run.coefficients,
-            1 => &mut run.dh,
-            2 => &mut run.dd,
-            3 => {
-                if !case.sheets.is_empty() {
-                    let i = random.below(case.sheets.len());
-                    let refused = &self.pool.refused;
-                    case.sheets[i] = random.within(refused.start, refused.end - 1) as u16;
-                }
-                return;
-            }
-            _ => {
-                *[
-                    &mut run.sin_lat,
-                    &mut run.cos_lat,
-                    &mut run.fit_tol,
-                    &mut case.options.tol_rad,
-                    &mut case.options.initial_lambda,
-                    &mut case.options.lambda_up,
-                    &mut case.options.lambda_down,
-                    &mut case.options.huber_k,
-                ][sort - 4] = number;
-                return;
-            }
-        };
-        if !slice.is_empty() {
-            let i = random.below(slice.len());
-            slice[i] = number;
-        }
-    }
-
-    /// Two to four faults of different questions.
-    pub fn faults(&mut self, case: &mut Case, numbers: &[u8]) {
-        let mut chosen = Vec::new();
-        for _ in 0..self.random.within(2, 4) {
-            chosen.push(self.random.pick(numbers));
-        }
-        self.put_faults(case, &chosen);
-    }
-
-    pub fn both_faults(&mut self, case: &mut Case, first: u8, second: u8) {
-        self.put_faults(case, &[first, second]);
-    }
-
-    fn put_faults(&mut self, case: &mut Case, chosen: &[u8]) {
-        for number in SHAPE_FIRST {
-            if chosen.contains(&number) {
-                self.fault(case, number);
-            }
-        }
-    }
-}
-
-const SHAPE_FIRST: [u8; 13] = [13, 11, 12, 1, 7, 8, 9, 10, 5, 4, 6, 2, 3];

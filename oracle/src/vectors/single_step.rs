@@ -2,7 +2,7 @@
 
 use super::fits::Records;
 use super::random::Random;
-use super::runs::{still, Case, Maker, Pool, NAMES, NOT_FINITE, REFUSED_NAMES, SINGLE};
+use super::runs::{still, Case, Maker, Pool, NAMES, SINGLE};
 use super::Vectors;
 
 const ASKED: [u8; 12] = [1, 2, 3, 4, 5, 7, 8, 9, 10, 11, 12, 13];
@@ -49,6 +49,7 @@ fn regimes(maker: &mut Maker, out: &mut Vec<Case>) {
     }
     for _ in 0..12 {
         out.push(maker.tight(SINGLE, 1));
+        out.push(maker.restless(SINGLE));
     }
     for _ in 0..6 {
         out.push(maker.real(SINGLE, 12, 30));
@@ -81,75 +82,18 @@ fn limits(maker: &mut Maker, out: &mut Vec<Case>) {
     out.push(flat);
 }
 
-/// Each question's "no" in each of its ways.
-fn refusals(maker: &mut Maker, out: &mut Vec<Case>) {
-    let mut add = |maker: &mut Maker, change: &mut dyn FnMut(&mut Maker, &mut Case)| {
-        let mut case = maker.real(SINGLE, 4, 6);
-        change(maker, &mut case);
-        out.push(case);
-    };
-    for sort in 0..5 {
-        for by in [-1, 1, -16, 16, -37] {
-            add(maker, &mut |maker, case| maker.fault_length(case, sort, by));
-        }
-        for fewer in [1, 2] {
-            add(maker, &mut |_, case| {
-                case.places[sort] = case.required()[sort].saturating_sub(fewer);
-            });
-        }
-    }
-    for number in NOT_FINITE {
-        for sort in 0..7 {
-            add(maker, &mut |maker, case| {
-                maker.fault_float(case, sort, number)
-            });
-        }
-    }
-    for sheet in maker.pool.refused.clone() {
-        add(maker, &mut |maker, case| {
-            let i = maker.random.below(case.n());
-            case.sheets[i] = sheet as u16;
-        });
-    }
-    for (_, names) in REFUSED_NAMES {
-        for name in names {
-            add(maker, &mut |maker, case| {
-                let j = maker.random.below(case.m());
-                case.set_name(j, name);
-            });
-        }
-    }
-    for (i, &first) in ASKED.iter().enumerate() {
-        for _ in 0..8 {
-            add(maker, &mut |maker, case| maker.fault(case, first));
-        }
-        for &second in &ASKED[i + 1..] {
-            add(maker, &mut |maker, case| {
-                maker.both_faults(case, first, second)
-            });
-        }
-    }
-    for _ in 0..300 {
-        add(maker, &mut |maker, case| maker.faults(case, &ASKED));
-    }
-}
-
 fn cases(maker: &mut Maker) -> Vec<Case> {
     let mut out = Vec::new();
     documented(&mut out);
     each_name(maker, &mut out);
     regimes(maker, &mut out);
     limits(maker, &mut out);
-    refusals(maker, &mut out);
-    // two names refused for different reasons: the lowest slot decides
-    for _ in 0..60 {
-        let mut case = maker.real(SINGLE, 6, 6);
-        let m = case.m();
-        case.resize_terms(m + 2);
-        for number in 7..=10 {
-            maker.fault(&mut case, number);
-        }
-        maker.places(&mut case);
+    out.extend(maker.shape_refusals(&[SINGLE]));
+    out.extend(maker.refusals(&[SINGLE], &ASKED));
+    for sheet in maker.pool.refused.clone() {
+        let mut case = maker.real(SINGLE, 3, 5);
+        let star = maker.random.below(case.n());
+        case.sheets[star] = sheet as u16;
         out.push(case);
     }
     // the single step takes no options
