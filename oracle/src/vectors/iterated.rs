@@ -220,6 +220,7 @@ fn regimes(maker: &mut Maker, out: &mut Vec<Case>) {
         let mode = mode(maker);
         out.push(maker.tight(mode, 1));
         out.push(maker.restless(mode));
+        out.push(maker.real(mode, 20, 24));
     }
 }
 

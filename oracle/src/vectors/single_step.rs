@@ -51,8 +51,8 @@ fn regimes(maker: &mut Maker, out: &mut Vec<Case>) {
         out.push(maker.tight(SINGLE, 1));
         out.push(maker.restless(SINGLE));
     }
-    for _ in 0..6 {
-        out.push(maker.real(SINGLE, 12, 30));
+    for _ in 0..30 {
+        out.push(maker.real(SINGLE, 20, 30));
     }
 }
 
