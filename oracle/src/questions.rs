@@ -201,7 +201,7 @@ impl Run {
             .collect()
     }
 
-    /// Questions 7 to 10, then what is worked out from the inputs of a fit.
+    /// After questions 1 to 6: 7 to 10, then what is worked out from the inputs of a fit.
     pub fn with_inputs<T>(&self, work: impl FnOnce(&FitInputs) -> Result<T>) -> Result<T> {
         let terms = slot_terms(&self.names)?;
         let observations = self.observations();
