@@ -4,7 +4,9 @@
 
 #![allow(clippy::needless_range_loop)]
 
+pub mod demand3;
 pub mod error;
+pub mod exact;
 pub mod libm;
 pub mod matrix;
 pub mod model;

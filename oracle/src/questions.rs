@@ -201,8 +201,8 @@ impl Run {
             .collect()
     }
 
-    /// Questions 7 to 10, then the fit, which puts 11 to 13.
-    fn fit(&self, options: Option<&IterOptions>) -> Result<FitResult> {
+    /// After questions 1 to 6: 7 to 10, then what is worked out from the inputs of a fit.
+    pub fn with_inputs<T>(&self, work: impl FnOnce(&FitInputs) -> Result<T>) -> Result<T> {
         let terms = slot_terms(&self.names)?;
         let observations = self.observations();
         let observations: Vec<&Observation> = observations.iter().collect();
@@ -211,16 +211,20 @@ impl Run {
             sin: self.sin_lat,
             cos: self.cos_lat,
         };
-        let inputs = FitInputs {
+        work(&FitInputs {
             observations: &observations,
             terms: &terms,
             fixed: &fixed,
             coefficients: &self.coefficients,
             latitude,
             fit_tol: self.fit_tol,
-        };
-        match options {
-            Some(options) => solver::fit_model_iterated(&inputs, options),
+        })
+    }
+
+    /// Questions 7 to 10, then the fit, which puts 11 to 13.
+    fn fit(&self, options: Option<&IterOptions>) -> Result<FitResult> {
+        self.with_inputs(|inputs| match options {
+            Some(options) => solver::fit_model_iterated(inputs, options),
             None => solver::fit_model(
                 inputs.observations,
                 inputs.terms,
@@ -229,11 +233,11 @@ impl Run {
                 inputs.latitude,
                 inputs.fit_tol,
             ),
-        }
+        })
     }
 }
 
-/// Questions 4 and 6 put to the options.
+/// Question 4 put to the options.
 fn finite_options(options: &IterOptions) -> bool {
     finite(&[
         options.tol_rad,
@@ -322,17 +326,19 @@ impl Model {
     }
 }
 
-/// The model with a term: its own questions, then 2, 7 to 10 and 14.
+/// The model with a term: its own questions, then 2, 7 to 10 and 14. Names are compared as stored:
+/// the bytes of the model's slots with the stored form of the new name.
 pub fn add_term(model: &Model, slot: &[u8]) -> Result<Model> {
-    let mut read = model.read()?;
-    ask(slot.len() == NAME, 2)?;
-    read.add_term(slot_name(slot)?)?;
+    model.read()?;
+    let name = stored_name(read_term(slot)?.as_ref());
     let mut out = model.clone();
-    if read.term_count() > model.count {
-        out.names[model.count] = stored_name(slot_term(slot)?.as_ref());
-        out.coefficients[model.count] = 0.0;
-        out.count += 1;
+    if model.names[..model.count].contains(&name) {
+        return Ok(out);
     }
+    ask(model.count < MAX_TERMS, 14)?;
+    out.names[model.count] = name;
+    out.coefficients[model.count] = 0.0;
+    out.count += 1;
     Ok(out)
 }
 

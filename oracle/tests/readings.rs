@@ -174,7 +174,7 @@ fn four_stars() {
 fn limits() {
     let dd = vec![-10.0; 1025];
     let many = vec!["ID"; 33];
-    let free = vec![0; 33];
+    let free = [0; 33];
     let start = vec![0.0; 33];
     let of = |m: usize, n: usize| run(&many[..m], &start[..m], &free[..m], &dd[..n]);
     assert!(single(&of(32, 1024)).is_ok());

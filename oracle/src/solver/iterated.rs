@@ -260,7 +260,7 @@ fn chi2_at_state(
     total
 }
 
-fn build_lm_system(
+pub(super) fn build_lm_system(
     inputs: &FitInputs<'_>,
     state: &[f64],
     cos_dec: &[f64],
@@ -308,7 +308,11 @@ fn build_lm_system(
     (a_free, b)
 }
 
-fn rotational_step_norm(terms: &[Box<dyn Term>], free_indices: &[usize], delta: &DVector) -> f64 {
+pub(super) fn rotational_step_norm(
+    terms: &[Box<dyn Term>],
+    free_indices: &[usize],
+    delta: &DVector,
+) -> f64 {
     let rot_names = ["IH", "ID", "NP", "ME"];
     let mut max_step = 0.0_f64;
     for (fi, &term_idx) in free_indices.iter().enumerate() {

@@ -5,6 +5,7 @@ mod iterated;
 pub mod linalg;
 mod single_step;
 mod stats;
+mod tried;
 mod validate;
 
 use crate::error::Result;
@@ -13,6 +14,7 @@ use crate::sheet::Latitude;
 use crate::terms::Term;
 
 pub use iterated::fit_model_iterated;
+pub use tried::{tried, weighted_residuals};
 
 use single_step::fit_model_with_inputs;
 

@@ -1,6 +1,6 @@
 //! `replay_jacobians`: the pair of each name on each block's sheet.
 
-use super::random::Random;
+use super::random::{Random, EXTREME};
 use super::{angles, put_doubles, Vectors};
 use oracle::questions::{jacobian, Point};
 use oracle::sheet::SHEET;
@@ -12,26 +12,6 @@ struct Block {
     lat: [f64; 2],
     pier: u8,
 }
-
-const EXTREME: [f64; 14] = [
-    0.0,
-    -0.0,
-    1.0,
-    -1.0,
-    5e-324,
-    -5e-324,
-    1e-310,
-    f64::MIN_POSITIVE,
-    1e-300,
-    -1e-300,
-    1e300,
-    -1e300,
-    f64::MAX,
-    f64::MIN,
-];
-
-/// The sign and the fraction, so that the exponent is 0.
-const SUBNORMAL: u64 = !(0x7ff << 52);
 
 /// The slots: every kind, every entry of a sheet, every result, function and coordinate, and
 /// refused names.
@@ -134,7 +114,7 @@ fn accepted(random: &mut Random) -> Vec<Block> {
         }
     }
     for _ in 0..6 {
-        blocks.push(filled(random, |r| f64::from_bits(r.bits() & SUBNORMAL)));
+        blocks.push(filled(random, Random::subnormal));
     }
     for _ in 0..40 {
         blocks.push(filled(random, Random::finite));

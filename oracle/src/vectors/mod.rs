@@ -1,9 +1,16 @@
 //! The stored vectors: for each replay program its standard input and what it prints.
 
 pub mod angles;
+pub mod faults;
+pub mod files;
+pub mod fits;
+pub mod iterated;
 pub mod jacobians;
+pub mod model;
 pub mod names;
 pub mod random;
+pub mod runs;
+pub mod single_step;
 pub mod solves;
 
 /// What a replay program reads, and what it prints.
@@ -14,7 +21,15 @@ pub struct Vectors {
 }
 
 pub fn all() -> Vec<Vectors> {
-    vec![names::vectors(), jacobians::vectors(), solves::vectors()]
+    vec![
+        names::vectors(),
+        jacobians::vectors(),
+        solves::vectors(),
+        single_step::vectors(),
+        iterated::vectors(),
+        model::vectors(),
+        files::vectors(),
+    ]
 }
 
 /// Appends doubles; every NaN as 7ff8000000000000.

@@ -123,7 +123,7 @@ impl Records {
 }
 
 /// Each letter small or capital.
-fn mixed_case(random: &mut Random, name: &[u8]) -> Vec<u8> {
+pub fn mixed_case(random: &mut Random, name: &[u8]) -> Vec<u8> {
     name.iter()
         .map(|&b| match random.flip() {
             true => b.to_ascii_lowercase(),

@@ -1,5 +1,23 @@
 //! Numbers that look random and are the same in every run (splitmix64).
 
+/// Numbers at the edges.
+pub const EXTREME: [f64; 14] = [
+    0.0,
+    -0.0,
+    1.0,
+    -1.0,
+    5e-324,
+    -5e-324,
+    1e-310,
+    f64::MIN_POSITIVE,
+    1e-300,
+    -1e-300,
+    1e300,
+    -1e300,
+    f64::MAX,
+    f64::MIN,
+];
+
 pub struct Random(u64);
 
 impl Random {
@@ -40,6 +58,11 @@ impl Random {
     /// From -1 to 1.
     pub fn unit(&mut self) -> f64 {
         (self.bits() >> 11) as f64 / (1u64 << 52) as f64 - 1.0
+    }
+
+    /// Zero or subnormal: any sign and fraction, the exponent 0.
+    pub fn subnormal(&mut self) -> f64 {
+        f64::from_bits(self.bits() & !(0x7ff << 52))
     }
 
     /// Any finite pattern.
