@@ -1,5 +1,6 @@
-//! `oracle write DIR` writes crates/replay_NAME/{stdin,stdout} below DIR; `oracle check DIR` works
-//! them out again and fails on a difference; `oracle fit` is the file program.
+//! `oracle write DIR` writes crates/replay_NAME/{stdin,stdout} below DIR, of the programs that
+//! DIR/crates.txt lists; `oracle check DIR` works them out again and fails on a difference;
+//! `oracle fit` is the file program.
 
 #![allow(clippy::needless_range_loop, clippy::neg_cmp_op_on_partial_ord)]
 
@@ -18,8 +19,20 @@ fn files(dir: &Path, vectors: &Vectors) -> [(PathBuf, Vec<u8>); 2] {
     ]
 }
 
+/// The vectors of the programs that crates.txt lists.
+fn listed(dir: &Path) -> std::io::Result<Vec<Vectors>> {
+    let crates = std::fs::read_to_string(dir.join("crates.txt"))?;
+    let mut all = vectors::all();
+    all.retain(|v| {
+        crates
+            .lines()
+            .any(|line| line.split(':').next() == Some(v.name))
+    });
+    Ok(all)
+}
+
 fn write(dir: &Path) -> std::io::Result<()> {
-    for vectors in vectors::all() {
+    for vectors in listed(dir)? {
         for (path, content) in files(dir, &vectors) {
             std::fs::create_dir_all(path.parent().expect("a directory"))?;
             std::fs::write(&path, &content)?;
@@ -29,9 +42,9 @@ fn write(dir: &Path) -> std::io::Result<()> {
     Ok(())
 }
 
-fn check(dir: &Path) -> bool {
+fn check(dir: &Path) -> std::io::Result<bool> {
     let mut equal = true;
-    for vectors in vectors::all() {
+    for vectors in listed(dir)? {
         for (path, content) in files(dir, &vectors) {
             let same = std::fs::read(&path).is_ok_and(|stored| stored == content);
             println!(
@@ -42,7 +55,7 @@ fn check(dir: &Path) -> bool {
             equal &= same;
         }
     }
-    equal
+    Ok(equal)
 }
 
 fn fit() -> std::io::Result<()> {
@@ -57,7 +70,7 @@ fn main() -> ExitCode {
     let args: Vec<&str> = args.iter().map(String::as_str).collect();
     let done = match args[..] {
         ["write", dir] => write(Path::new(dir)).is_ok(),
-        ["check", dir] => check(Path::new(dir)),
+        ["check", dir] => check(Path::new(dir)).is_ok_and(|equal| equal),
         ["fit"] => fit().is_ok(),
         _ => {
             eprintln!("oracle write DIR | oracle check DIR | oracle fit");
