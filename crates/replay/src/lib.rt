@@ -26,6 +26,37 @@ pub fn same_double(x: f64) -> bool {
     float::to_bits(x) == float::to_bits(double())
 }
 
+pub fn read_doubles(s: &mut [f64]) {
+    for i in 0..s.len() {
+        s[i] = double();
+    }
+}
+
+// Whether the numbers held so far are the oracle's, and whether each is a number.
+pub struct Held {
+    pub same: bool,
+    pub numbers: bool,
+}
+
+// Whether x is the oracle's next number.
+pub fn hold(held: Held, x: f64) -> Held {
+    let same = same_double(x);
+    let number = x == x;
+    Held {
+        same: held.same && same,
+        numbers: held.numbers && number,
+    }
+}
+
+// Whether the numbers of s are the oracle's next ones.
+pub fn hold_all(held: Held, s: &[f64]) -> Held {
+    let mut held = held;
+    for i in 0..s.len() {
+        held = hold(held, s[i]);
+    }
+    held
+}
+
 pub fn wide(b: u8) -> usize
     ensures { λ r. ⌜ r < 256 ⌝ }
 {

@@ -7,6 +7,9 @@ ghost use lib.ListN.{length, take};
 ghost use Rattle.linalg.specs.Linalg.{Placed};
 ghost use Rattle.replay_solves.specs.Systems.{Sized, Ordered};
 use linalg::SolveOutcome;
+use replay::Held;
+use replay::hold;
+use replay::read_doubles;
 
 struct Tally {
     solves: u64,
@@ -17,24 +20,12 @@ struct Tally {
     different: u64,
 }
 
-// Whether numbers are the oracle's, and whether each is a number.
-struct Held {
-    same: bool,
-    numbers: bool,
-}
-
 // The head of a record.
 struct Head {
     rows: usize,
     m: usize,
     lambda: f64,
     fit_tol: f64,
-}
-
-fn read_doubles(s: &mut [f64]) {
-    for i in 0..s.len() {
-        s[i] = replay::double();
-    }
 }
 
 // m columns of h numbers, of which the first `rows` are read.
@@ -44,16 +35,6 @@ fn read_columns(w: &mut [f64], h: usize, rows: usize, m: usize)
     for j in 0..m {
         let x = j * h;
         read_doubles(&mut w[x..x + rows]);
-    }
-}
-
-// Whether x is the oracle's next number, in its bits.
-fn hold(held: Held, x: f64) -> Held {
-    let same = replay::same_double(x);
-    let number = x == x;
-    Held {
-        same: held.same && same,
-        numbers: held.numbers && number,
     }
 }
 
@@ -164,16 +145,7 @@ fn solve(t: Tally, head: Head, w: &mut [f64]) -> Tally
     let m = head.m;
     read_matrix(head, w);
     read_residuals(head, w);
-    let r = linalg::solve_damped(
-        w,
-        256,
-        rows + m + m,
-        rows,
-        m,
-        0,
-        head.lambda,
-        head.fit_tol,
-    );
+    let r = linalg::solve_damped(w, 256, rows + m + m, rows, m, 0, head.lambda, head.fit_tol);
     let held = hold_solve(head, r, w);
     count(t, head, r, held)
 }

@@ -1,10 +1,10 @@
--- `read_doubles` is safe and ends. Assumes nothing.
+-- `replay::read_doubles` is safe and ends. Assumes nothing.
 use Prim.Native.Nat.{_≤_, _-_}
 use mathlib.Core.Path.{_≡_, refl}
 use lib.ListN.{length, length-set}
 use native.Mathlib.Omega.{arith}
-use Rattle.replay_solves.proofs.read_doubles.Statement.{statement}
-use Rattle.replay_solves.proofs.read_doubles.Tie as tie
+use Rattle.replay.proofs.read_doubles.Statement.{statement}
+use Rattle.replay.proofs.read_doubles.Tie as tie
 
 abbrev Inv-loop : tie.InvT-loop
 Inv-loop s₀ i₀ i-end s i = (i-end ≡ length s₀) × (i ≤ i-end) × (length s ≡ length s₀)
