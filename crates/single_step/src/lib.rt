@@ -1,0 +1,86 @@
+// The single-step fit. Scratch holds, for n stars, the column of one term, a product, the residuals b and weights, 2·n numbers each, and
+// from 8·n on the columns that the solver works on. After solver/single_step.rs.
+
+ghost use mathlib.Core.Path.{_≡_};
+ghost use mathlib.Core.List.{zipWith};
+ghost use Prim.Native.Nat.{_+_, _*_, _≤_};
+ghost use lib.ListN.{length};
+ghost use lib.Ieee.{binary64, sub};
+ghost use Rattle.float.specs.Float.{_⊕_};
+ghost use Rattle.sequence.specs.Sequence.{at, part, filled, Only};
+ghost use Rattle.column.specs.Column.{zeros};
+ghost use Rattle.design.specs.Design.{freeCount};
+ghost use Rattle.validate.specs.Call.{lent};
+ghost use Rattle.single_step.specs.SingleStep.{rowsOf, heightOf, toFit, step, changeAt, Fits};
+use linalg::SolveOutcome;
+
+// The step: the residuals at 4·n, the free columns at 8·n, and the solution.
+fn solve(
+    names: &[u8],
+    fixed: &[u8],
+    coefficients: &[f64],
+    dh: &[f64],
+    dd: &[f64],
+    pier: &[u8],
+    sheets: &[f64],
+    sin_lat: f64,
+    cos_lat: f64,
+    fit_tol: f64,
+    w: &mut [f64],
+) -> SolveOutcome
+    requires { ⌜ Fits (lent (now names) (now fixed) (now coefficients) (now dh) (now dd) (now pier) (now sheets) «sin_lat» «cos_lat» «fit_tol») (now w) ⌝ }
+    ensures { λ r. ⌜ (record { outcome = r; w = part (now (w .exit)) (8 * length (now (dh .entry))) (freeCount (now (fixed .entry)) * (2 * length (now (dh .entry)) + 2 * length (now (coefficients .entry)))) }
+        ≡ step (lent (now (names .entry)) (now (fixed .entry)) (now (coefficients .entry)) (now (dh .entry)) (now (dd .entry)) (now (pier .entry)) (now (sheets .entry)) «sin_lat» «cos_lat» «fit_tol»))
+        × (part (now (w .exit)) (4 * length (now (dh .entry))) (2 * length (now (dh .entry)))
+        ≡ toFit (lent (now (names .entry)) (now (fixed .entry)) (now (coefficients .entry)) (now (dh .entry)) (now (dd .entry)) (now (pier .entry)) (now (sheets .entry)) «sin_lat» «cos_lat» «fit_tol»)) ⌝ }
+{
+    let n = dh.len();
+    let rows = 2 * n;
+    let h = rows + 2 * coefficients.len();
+    let b = 4 * n;
+    let c = 8 * n;
+    let free = design::free_count(fixed);
+    design::build_sky_residuals(dh, dd, sheets, &mut w[b..b + rows]);
+    products::subtract_all_contributions(
+        names,
+        pier,
+        sheets,
+        sin_lat,
+        cos_lat,
+        coefficients,
+        w,
+        b,
+    );
+    products::free_columns(names, fixed, pier, sheets, sin_lat, cos_lat, w, c, h);
+    linalg::solve_and_covariance(w, c, h, rows, free, b, rows, fit_tol)
+}
+
+// A free term's change is its place in x, a fixed term's is 0.
+fn changes(fixed: &[u8], x: &[f64; 32]) -> [f64; 32]
+    requires { ⌜ length (now fixed) ≤ 32 ⌝ }
+    ensures { λ r. ⌜ r ≡ filled (length (now (fixed .entry))) (changeAt (now (fixed .entry)) (now (x .entry))) zeros ⌝ }
+{
+    let mut change = [0.0; 32];
+    let mut fi = 0usize;
+    for j in 0..fixed.len() {
+        if fixed[j] == 0 {
+            change[j] = x[fi];
+            fi += 1;
+        } else {
+            change[j] = 0.0;
+        }
+    }
+    change
+}
+
+// The coefficients with their changes added.
+fn changed(coefficients: &[f64], change: &[f64; 32]) -> [f64; 32]
+    requires { ⌜ length (now coefficients) ≤ 32 ⌝ }
+    ensures { λ r. ⌜ r ≡ filled (length (now (coefficients .entry))) (λ j. at (now (coefficients .entry)) j ⊕ at (now (change .entry)) j) zeros ⌝ }
+{
+    let mut new = [0.0; 32];
+    for j in 0..coefficients.len() {
+        new[j] = coefficients[j] + change[j];
+    }
+    new
+}
