@@ -9,7 +9,9 @@ ghost use lib.Ieee.{binary64, sub};
 ghost use Rattle.float.specs.Float.{_⊕_};
 ghost use Rattle.sequence.specs.Sequence.{at, part, filled, Only};
 ghost use Rattle.column.specs.Column.{zeros};
-ghost use Rattle.design.specs.Design.{freeCount};
+ghost use Rattle.design.specs.Design.{termAt, freeCount, freeProduct, product};
+ghost use Rattle.design.specs.Filled.{columnTo, skyColumnTo, differencesTo};
+ghost use Rattle.products.specs.Products.{Held};
 ghost use Rattle.validate.specs.Call.{lent};
 ghost use Rattle.single_step.specs.SingleStep.{rowsOf, heightOf, toFit, step, changeAt, Fits};
 use linalg::SolveOutcome;
@@ -83,4 +85,51 @@ fn changed(coefficients: &[f64], change: &[f64; 32]) -> [f64; 32]
         new[j] = coefficients[j] + change[j];
     }
     new
+}
+
+// At 2·n, what lies at 4·n less the product of the free sky columns with x: the free terms' residuals.
+fn free_residuals(
+    names: &[u8],
+    fixed: &[u8],
+    pier: &[u8],
+    sheets: &[f64],
+    sin_lat: f64,
+    cos_lat: f64,
+    x: &[f64; 32],
+    w: &mut [f64],
+)
+    requires { ⌜ Held (now names) (now pier) (now sheets) × (length (now fixed) ≤ 32) × (length (now names) ≡ 16 * length (now fixed)) × (6 * length (now pier) ≤ length (now w)) ⌝ }
+    ensures { λ _. ⌜ (part (now (w .exit)) (2 * length (now (pier .entry))) (2 * length (now (pier .entry)))
+        ≡ zipWith (sub binary64) (part (now (w .entry)) (4 * length (now (pier .entry))) (2 * length (now (pier .entry)))) (freeProduct (2 * length (now (pier .entry))) (length (now (fixed .entry))) (now (fixed .entry)) (now (x .entry)) (λ j. skyColumnTo «sin_lat» «cos_lat» (now (pier .entry)) (now (sheets .entry)) (termAt (now (names .entry)) j))))
+        × Only 0 (2 * length (now (pier .entry)) + 2 * length (now (pier .entry))) (now (w .entry)) (now (w .exit)) ⌝ }
+{
+    let n = pier.len();
+    let rows = 2 * n;
+    products::free_product(names, fixed, pier, sheets, sin_lat, cos_lat, x, w, rows);
+    design::subtract_from(w, rows, 4 * n, rows);
+}
+
+// At 2·n, the differences less the product of all columns with the coefficients.
+fn residuals(
+    names: &[u8],
+    dh: &[f64],
+    dd: &[f64],
+    pier: &[u8],
+    sheets: &[f64],
+    sin_lat: f64,
+    cos_lat: f64,
+    coefficients: &[f64; 32],
+    m: usize,
+    w: &mut [f64],
+)
+    requires { ⌜ Held (now names) (now pier) (now sheets) × (m ≤ 32) × (length (now names) ≡ 16 * m) × (length (now dd) ≡ length (now dh)) × (length (now pier) ≡ length (now dh)) × (6 * length (now pier) ≤ length (now w)) ⌝ }
+    ensures { λ _. ⌜ part (now (w .exit)) (2 * length (now (pier .entry))) (2 * length (now (pier .entry)))
+        ≡ zipWith (sub binary64) (differencesTo (now (dh .entry)) (now (dd .entry))) (product (2 * length (now (pier .entry))) m (at (now (coefficients .entry))) (λ j. columnTo «sin_lat» «cos_lat» (now (pier .entry)) (now (sheets .entry)) (termAt (now (names .entry)) j))) ⌝ }
+{
+    let n = pier.len();
+    let rows = 2 * n;
+    let b = 4 * n;
+    design::build_residuals(dh, dd, &mut w[b..b + rows]);
+    products::product(names, pier, sheets, sin_lat, cos_lat, coefficients, m, w, rows);
+    design::subtract_from(w, rows, b, rows);
 }

@@ -1,81 +1,94 @@
+-- `single_step::solve` meets its contract. Assumes nothing.
+use mathlib.Core.Path.{_∙_}
+use Prim.Native.Nat.{_*_}
+use native.Mathlib.Omega.{arith}
+use lib.ListN.{length}
+use Rattle.sequence.proofs.Only.{back-only}
+use Rattle.validate.specs.Call.{lent}
+use Rattle.single_step.proofs.Laws.{columns-room, solve-ready, stepped}
 use borrow.Author.Needs.{needs}
 use Rattle.single_step.proofs.solve.Statement.{statement}
 use Rattle.single_step.proofs.solve.Tie as tie
-use Rattle.single_step.proofs.solve.Reads as reads
-use Rattle.single_step.proofs.solve.Lts as lts
-use Rattle.design.proofs.build_sky_residuals.Reads as build-sky-residuals-reads
-use Rattle.design.proofs.free_count.Reads as free-count-reads
-use Rattle.linalg.proofs.solve_and_covariance.Reads as solve-and-covariance-reads
-use Rattle.products.proofs.free_columns.Reads as free-columns-reads
-use Rattle.products.proofs.subtract_all_contributions.Reads as subtract-all-contributions-reads
 
--- src/lib.rt:38:16
 mul-rows : tie.Need-mul-rows
 mul-rows c = search needs
 
--- src/lib.rt:39:20
 mul-h : tie.Need-mul-h
 mul-h c = search needs
 
--- src/lib.rt:39:13
 add-h : tie.Need-add-h
 add-h c = search needs
 
--- src/lib.rt:40:13
 mul-b : tie.Need-mul-b
 mul-b c = search needs
 
--- src/lib.rt:41:13
 mul-c : tie.Need-mul-c
 mul-c c = search needs
 
--- src/lib.rt:42:9
 free-count-requires : tie.Need-free-count-requires
 free-count-requires c κs = search needs
 
--- src/lib.rt:43:59
 add-build-sky-residuals : tie.Need-add-build-sky-residuals
 add-build-sky-residuals c = search needs
 
--- src/lib.rt:43:49
 mul-build-sky-residuals : tie.Need-mul-build-sky-residuals
 mul-build-sky-residuals c = search needs
 
--- src/lib.rt:43:49
 sub-build-sky-residuals : tie.Need-sub-build-sky-residuals
 sub-build-sky-residuals c = search needs
 
--- src/lib.rt:43:49
 part-build-sky-residuals-start : tie.Need-part-build-sky-residuals-start
 part-build-sky-residuals-start c = search needs
 
--- src/lib.rt:43:49
 part-build-sky-residuals-end : tie.Need-part-build-sky-residuals-end
 part-build-sky-residuals-end c = search needs
 
--- src/lib.rt:43:5
 build-sky-residuals-requires : tie.Need-build-sky-residuals-requires
 build-sky-residuals-requires c κs = search needs
 
--- src/lib.rt:44:5
 subtract-all-contributions-requires : tie.Need-subtract-all-contributions-requires
 subtract-all-contributions-requires c κs = search needs
 
--- src/lib.rt:54:5
 free-columns-requires : tie.Need-free-columns-requires
-free-columns-requires c κs = ?
+free-columns-requires c κs =
+    let subtract = c .before .before .before in
+    let built = subtract .before .before .before .before in
+    let s = built .before .before .before .before .before .before .before .before .before .before .before in
+    let a = s .args in
+    let n = length (a .dh .now) in
+    let first = back-only (a .w .now) (built .build-sky-residuals .last .1 .1 .1 .0) (4 * n) (2 * n) (omega (arith, s .pre .room)) (built .build-sky-residuals .kept .1 .1 .1 .0) in
+    let long = subtract .subtract-all-contributions .ensures .1 .long ∙ first .long in
+    (record { few = omega (arith, s .pre .names-count, s .pre .terms); stars = omega (arith, s .pre .pier-count, s .pre .stars); sheets-count = omega (arith, s .pre .pier-count, s .pre .sheets-count) },
+    omega (arith, s .pre .terms, s .pre .fixed-count), omega (arith, s .pre .names-count, s .pre .fixed-count), omega (arith, s .pre .pier-count),
+    columns-room (lent (a .names .now) (a .fixed .now) (a .coefficients .now) (a .dh .now) (a .dd .now) (a .pier .now) (a .sheets .now) (a .sin-lat) (a .cos-lat) (a .fit-tol)) (a .w .now) _ (s .pre) long)
 
--- src/lib.rt:55:5
 solve-and-covariance-requires : tie.Need-solve-and-covariance-requires
-solve-and-covariance-requires c κs = ?
+solve-and-covariance-requires c κs =
+    let laid = c .before .before .before in
+    let subtract = laid .before .before .before .before in
+    let built = subtract .before .before .before .before in
+    let counted = built .before .before in
+    let s = counted .before .before .before .before .before .before .before .before .before in
+    let a = s .args in
+    let n = length (a .dh .now) in
+    let first = back-only (a .w .now) (built .build-sky-residuals .last .1 .1 .1 .0) (4 * n) (2 * n) (omega (arith, s .pre .room)) (built .build-sky-residuals .kept .1 .1 .1 .0) in
+    let long = laid .free-columns .ensures .1 .long ∙ subtract .subtract-all-contributions .ensures .1 .long ∙ first .long in
+    let r = solve-ready (lent (a .names .now) (a .fixed .now) (a .coefficients .now) (a .dh .now) (a .dd .now) (a .pier .now) (a .sheets .now) (a .sin-lat) (a .cos-lat) (a .fit-tol)) (a .w .now) _ (counted .free-count .result) (s .pre) long (counted .free-count .ensures) in
+    (r .0, r .1, omega (arith, r .2), r .3, omega arith, omega arith)
 
--- src/lib.rt:18:1
 same-length : tie.Need-same-length
 same-length c = search needs
 
--- src/lib.rt:18:1
 returns : tie.Need-returns
-returns c = ?
+returns c =
+    let k = c .before .before in
+    let laid = k .before .before .before .before in
+    let subtract = laid .before .before .before .before in
+    let built = subtract .before .before .before .before in
+    let counted = built .before .before in
+    let s = counted .before .before .before .before .before .before .before .before .before in
+    let a = s .args in
+    stepped (lent (a .names .now) (a .fixed .now) (a .coefficients .now) (a .dh .now) (a .dd .now) (a .pier .now) (a .sheets .now) (a .sin-lat) (a .cos-lat) (a .fit-tol)) (a .w .now) (built .build-sky-residuals .last .1 .1 .1 .0) _ _ _ (counted .free-count .result) _ (s .pre) (counted .free-count .ensures) (built .build-sky-residuals .kept .1 .1 .1 .0) (built .build-sky-residuals .ensures) (subtract .subtract-all-contributions .ensures) (laid .free-columns .ensures) (k .solve-and-covariance .ensures)
 
 pub solve-spec : {M : Type 1} → statement M
 solve-spec =

@@ -1,0 +1,119 @@
+-- The columns and residuals by the list of stars, and what each step of the fit leaves in scratch. Assumes nothing.
+use Prim.Native.Nat.{ℕ, _+_, _-_, _*_, _≤_, _<_}
+use native.Mathlib.Nat.{mul-le-mul-right}
+use native.Mathlib.Omega.{arith}
+use mathlib.Core.Path.{_≡_, sym, ap, _∙_, fun-ext}
+use mathlib.Core.List.{List, zipWith}
+use lib.ListN.{length, take, drop}
+use lib.Seq.{sets}
+use lib.Ieee.{Float}
+use Rattle.float.specs.Float.{_⊗_}
+use Rattle.sequence.specs.Sequence.{at, part, Only}
+use Rattle.sequence.proofs.Parts.{part-sets-same, length-zip-part}
+use Rattle.sequence.proofs.Only.{only-sets, only-wider, only-then, back, back-only, back-part}
+use Rattle.linalg.specs.Linalg.{solved}
+use Rattle.linalg.specs.declared.SolveOutcome.{SolveOutcome}
+use Rattle.validate.specs.Call.{Lent}
+use Rattle.design.specs.Design.{Star, stars, starAt, termAt, slope, cosDec, freeCount, ofFree, column, skyColumn, differences, skyDifferences, subtractAll, laid}
+use Rattle.design.specs.Filled.{rowsTo, columnTo, skyColumnTo, differencesTo, skyDifferencesTo}
+use Rattle.design.proofs.Rows.{rows-table}
+use Rattle.design.proofs.Free.{free-few}
+use Rattle.single_step.specs.SingleStep.{starsOf, columnOf, skyOf, heightOf, toFit, step, Fits}
+
+-- ---- by the list of stars
+
+-- the column of term j by the star's number
+abbrev pub columnTo-at : Lent → ℕ → List Float
+columnTo-at l j = columnTo (l .sinLat) (l .cosLat) (l .pier) (l .sheets) (termAt (l .names) j)
+
+abbrev pub skyTo-at : Lent → ℕ → List Float
+skyTo-at l j = skyColumnTo (l .sinLat) (l .cosLat) (l .pier) (l .sheets) (termAt (l .names) j)
+
+module _ (l : Lent) (same : length (l .pier) ≡ length (l .dh)) where
+  pub column-same : columnTo-at l ≡ columnOf l
+  unfolding column columnTo stars
+  column-same =
+      fun-ext
+      (λ j.
+      let t = termAt (l .names) j in
+      let f : Star → Float = λ s. slope (l .sinLat) (l .cosLat) t (s .pier) (s .sheet) .dh in
+      let g : Star → Float = λ s. slope (l .sinLat) (l .cosLat) t (s .pier) (s .sheet) .dd in
+      let star : ℕ → Star = starAt (l .dh) (l .dd) (l .pier) (l .sheets) in
+      ap (λ (n : ℕ). rowsTo n (λ i. f (star i)) (λ i. g (star i))) same ∙ sym (rows-table f g star (length (l .dh))))
+
+  pub sky-same : skyTo-at l ≡ skyOf l
+  unfolding skyColumn skyColumnTo stars
+  sky-same =
+      fun-ext
+      (λ j.
+      let t = termAt (l .names) j in
+      let f : Star → Float = λ s. slope (l .sinLat) (l .cosLat) t (s .pier) (s .sheet) .dh ⊗ cosDec (s .sheet) in
+      let g : Star → Float = λ s. slope (l .sinLat) (l .cosLat) t (s .pier) (s .sheet) .dd in
+      let star : ℕ → Star = starAt (l .dh) (l .dd) (l .pier) (l .sheets) in
+      ap (λ (n : ℕ). rowsTo n (λ i. f (star i)) (λ i. g (star i))) same ∙ sym (rows-table f g star (length (l .dh))))
+
+pub differences-same : (l : Lent) → differencesTo (l .dh) (l .dd) ≡ differences (starsOf l)
+unfolding differences differencesTo stars
+differences-same l = sym (rows-table (λ s. s .dh) (λ s. s .dd) (starAt (l .dh) (l .dd) (l .pier) (l .sheets)) (length (l .dh)))
+
+pub sky-differences-same : (l : Lent) → skyDifferencesTo (l .dh) (l .dd) (l .sheets) ≡ skyDifferences (starsOf l)
+unfolding skyDifferences skyDifferencesTo stars
+sky-differences-same l =
+    sym (rows-table (λ s. s .dh ⊗ cosDec (s .sheet)) (λ s. s .dd) (starAt (l .dh) (l .dd) (l .pier) (l .sheets)) (length (l .dh)))
+
+-- ---- the step
+
+-- room for the columns of all terms, and for those of the free ones
+pub columns-room : (l : Lent) (w v : List Float) → Fits l w → length v ≡ length w → 8 * length (l .dh) + length (l .fixed) * heightOf l ≤ length v
+columns-room l w v f e = rw (f .fixed-count, e) (f .room)
+
+pub solve-ready : (l : Lent) (w v : List Float) (free : ℕ) → Fits l w → length v ≡ length w → free ≡ freeCount (l .fixed)
+    → (0 < free) × (free ≤ 32) × (free ≤ length (l .coefficients)) × (8 * length (l .dh) + free * heightOf l ≤ length v)
+solve-ready l w v free f e q =
+    let few : free ≤ length (l .coefficients) = rw (q, ← f .fixed-count) (free-few (l .fixed) (length (l .fixed))) in
+    let least : 0 < free = rw q (f .some-free) in
+    (least, omega (arith, few, f .terms), few, omega (arith, mul-le-mul-right (heightOf l) few, f .room, e))
+
+-- w is the scratch; it has taken the differences ys, then the contributions were subtracted (w₁), the columns laid (w₂) and the system solved (w₃)
+pub stepped : (l : Lent) (w ys w₁ w₂ w₃ : List Float) (free : ℕ) (r : SolveOutcome) → Fits l w → free ≡ freeCount (l .fixed)
+    → length ys ≡ length (take (4 * length (l .dh) + 2 * length (l .dh) - 4 * length (l .dh)) (drop (4 * length (l .dh)) w))
+    → ys ≡ skyDifferencesTo (l .dh) (l .dd) (l .sheets)
+    → (part w₁ (4 * length (l .dh)) (2 * length (l .pier))
+      ≡ subtractAll (length (l .coefficients)) (at (l .coefficients)) (skyTo-at l) (part (back w ys (4 * length (l .dh)) (2 * length (l .dh))) (4 * length (l .dh)) (2 * length (l .pier))))
+      × Only 0 (4 * length (l .dh) + 2 * length (l .pier)) (back w ys (4 * length (l .dh)) (2 * length (l .dh))) w₁
+    → (part w₂ (8 * length (l .dh)) (freeCount (l .fixed) * heightOf l) ≡ laid (heightOf l) (ofFree (l .fixed) (skyTo-at l) (length (l .fixed))))
+      × Only (8 * length (l .dh)) (length (l .fixed) * heightOf l) w₁ w₂
+    → (record { outcome = r; w = part w₃ (8 * length (l .dh)) (free * heightOf l) }
+      ≡ solved (heightOf l) (2 * length (l .dh)) free (part w₂ (8 * length (l .dh)) (free * heightOf l)) (part w₂ (4 * length (l .dh)) (2 * length (l .dh))) (l .fitTol))
+      × Only (8 * length (l .dh)) (free * heightOf l) w₂ w₃
+    → (record { outcome = r; w = part w₃ (8 * length (l .dh)) (freeCount (l .fixed) * heightOf l) } ≡ step l)
+      × (part w₃ (4 * length (l .dh)) (2 * length (l .dh)) ≡ toFit l)
+unfolding step toFit
+stepped l w ys w₁ w₂ w₃ free r f q kept e p₁ p₂ p₃ =
+    let n = length (l .dh) in
+    let h = heightOf l in
+    let same = f .pier-count in
+    let b = back w ys (4 * n) (2 * n) in
+    let room : 4 * n + 2 * n ≤ length w = omega (arith, f .room) in
+    let start : part b (4 * n) (2 * n) ≡ skyDifferences (starsOf l) = back-part w ys (4 * n) (2 * n) room kept ∙ e ∙ sky-differences-same l in
+    let less : part w₁ (4 * n) (2 * n) ≡ subtractAll (length (l .coefficients)) (at (l .coefficients)) (skyTo-at l) (part b (4 * n) (2 * n)) = rw same at (p₁ .0) in
+    let fit₁ : part w₁ (4 * n) (2 * n) ≡ subtractAll (length (l .coefficients)) (at (l .coefficients)) (skyOf l) (skyDifferences (starsOf l)) =
+    less ∙ ap (subtractAll (length (l .coefficients)) (at (l .coefficients)) (skyTo-at l)) start ∙ ap (λ a. subtractAll (length (l .coefficients)) (at (l .coefficients)) a (skyDifferences (starsOf l))) (sky-same l same) in
+    let fit₂ = p₂ .1 .below (4 * n) (2 * n) (omega arith) ∙ fit₁ in
+    let fit₃ = p₃ .1 .below (4 * n) (2 * n) (omega arith) ∙ fit₂ in
+    let cols = p₂ .0 ∙ ap (λ a. laid h (ofFree (l .fixed) a (length (l .fixed)))) (sky-same l same) in
+    let s = rw q at (p₃ .0) in
+    (s ∙ ap (λ a. solved h (2 * n) (freeCount (l .fixed)) a (part w₂ (4 * n) (2 * n)) (l .fitTol)) cols ∙ ap (λ a. solved h (2 * n) (freeCount (l .fixed)) (laid h (ofFree (l .fixed) (skyOf l) (length (l .fixed)))) a (l .fitTol)) fit₂, fit₃)
+
+-- ---- residuals: a product p at x has been taken from what lies at y
+
+pub taken-from : (f : Float → Float → Float) (w w₁ w₂ p : List Float) (x y n : ℕ) → x + n ≤ y → y + n ≤ length w → (part w₁ x n ≡ p) × Only 0 (x + n) w w₁
+    → w₂ ≡ sets w₁ x (zipWith f (part w₁ y n) (part w₁ x n)) → (part w₂ x n ≡ zipWith f (part w y n) p) × Only 0 (x + n) w w₂
+taken-from f w w₁ w₂ p x y n low room q e =
+    let long : length w₁ ≡ length w = q .1 .long in
+    let old : part w₁ y n ≡ part w y n = q .1 .above y n (omega arith) in
+    let z = zipWith f (part w₁ y n) (part w₁ x n) in
+    let count : length z ≡ n = length-zip-part f w₁ y x n (omega arith) (omega arith) in
+    let is : part w₂ x n ≡ z = ap (λ (v : List Float). part v x n) e ∙ part-sets-same w₁ x n z count (omega arith) in
+    let last : Only 0 (x + n) w₁ w₂ = rw e (only-wider x n 0 (x + n) w₁ (sets w₁ x z) (omega arith) (omega arith) (only-sets w₁ x n z (omega arith))) in
+    (is ∙ ap (λ (v : List Float). zipWith f v (part w₁ x n)) old ∙ ap (zipWith f (part w y n)) (q .0), only-then 0 (x + n) w w₁ w₂ (q .1) last)
