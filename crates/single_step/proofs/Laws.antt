@@ -117,3 +117,11 @@ taken-from f w w₁ w₂ p x y n low room q e =
     let is : part w₂ x n ≡ z = ap (λ (v : List Float). part v x n) e ∙ part-sets-same w₁ x n z count (omega arith) in
     let last : Only 0 (x + n) w₁ w₂ = rw e (only-wider x n 0 (x + n) w₁ (sets w₁ x z) (omega arith) (omega arith) (only-sets w₁ x n z (omega arith))) in
     (is ∙ ap (λ (v : List Float). zipWith f v (part w₁ x n)) old ∙ ap (zipWith f (part w y n)) (q .0), only-then 0 (x + n) w w₁ w₂ (q .1) last)
+
+-- the same where y has just taken ys
+pub residual-left : (f : Float → Float → Float) (w ys d w₁ w₂ p : List Float) (x y n : ℕ) → x + n ≤ y → y + n ≤ length w
+    → length ys ≡ length (take (y + n - y) (drop y w)) → ys ≡ d → (part w₁ x n ≡ p) × Only 0 (x + n) (back w ys y n) w₁
+    → w₂ ≡ sets w₁ x (zipWith f (part w₁ y n) (part w₁ x n)) → part w₂ x n ≡ zipWith f d p
+residual-left f w ys d w₁ w₂ p x y n low room kept e q g =
+    let long : length (back w ys y n) ≡ length w = back-only w ys y n room kept .long in
+    taken-from f (back w ys y n) w₁ w₂ p x y n low (rw long room) q g .0 ∙ ap (λ (v : List Float). zipWith f v p) (back-part w ys y n room kept ∙ e)

@@ -2,18 +2,20 @@
 // from 8·n on the columns that the solver works on. After solver/single_step.rs.
 
 ghost use mathlib.Core.Path.{_≡_};
-ghost use mathlib.Core.List.{zipWith};
+ghost use mathlib.Core.List.{_++_, zipWith};
 ghost use Prim.Native.Nat.{_+_, _*_, _≤_};
-ghost use lib.ListN.{length};
+ghost use lib.ListN.{length, drop};
 ghost use lib.Ieee.{binary64, sub};
 ghost use Rattle.float.specs.Float.{_⊕_};
 ghost use Rattle.sequence.specs.Sequence.{at, part, filled, Only};
 ghost use Rattle.column.specs.Column.{zeros};
+ghost use Rattle.linalg.specs.Linalg.{Placed, leverageOf};
+ghost use Rattle.stats.specs.Stats.{deviation, diagnostic};
 ghost use Rattle.design.specs.Design.{termAt, freeCount, freeProduct, product};
 ghost use Rattle.design.specs.Filled.{columnTo, skyColumnTo, differencesTo};
 ghost use Rattle.products.specs.Products.{Held};
 ghost use Rattle.validate.specs.Call.{lent};
-ghost use Rattle.single_step.specs.SingleStep.{rowsOf, heightOf, toFit, step, changeAt, Fits};
+ghost use Rattle.single_step.specs.SingleStep.{toFit, step, changeAt, threes, Fits};
 use linalg::SolveOutcome;
 
 // The step: the residuals at 4·n, the free columns at 8·n, and the solution.
@@ -132,4 +134,39 @@ fn residuals(
     design::build_residuals(dh, dd, &mut w[b..b + rows]);
     products::product(names, pier, sheets, sin_lat, cos_lat, coefficients, m, w, rows);
     design::subtract_from(w, rows, b, rows);
+}
+
+// Three numbers for each of n stars, from their residuals r and the solved columns u, of which those in o count where inv_s isn't 0.
+fn compute_diagnostics(
+    u: &[f64],
+    h: usize,
+    o: &[usize],
+    inv_s: &[f64; 32],
+    r: &[f64],
+    n: usize,
+    rank: usize,
+    out: &mut [f64],
+)
+    requires { ⌜ Placed h (now u) (now o) × (2 * n ≤ h) × (n ≤ 1024) × (length (now r) ≡ 2 * n) × (3 * n ≤ length (now out)) ⌝ }
+    ensures { λ _. ⌜ now (out .exit) ≡ threes n (λ i. diagnostic (deviation (now (r .entry)) (2 * n) rank) (at (now (r .entry)) (2 * i)) (at (now (r .entry)) (2 * i + 1)) (leverageOf h (now (u .entry)) (now (o .entry)) (now («inv_s» .entry)) (2 * i)) (leverageOf h (now (u .entry)) (now (o .entry)) (now («inv_s» .entry)) (2 * i + 1))) ++ drop (3 * n) (now (out .entry)) ⌝ }
+{
+    let s = sqrt::sqrt(stats::variance(r, 2 * n, rank));
+    for i in 0..n {
+        let l_ha = linalg::leverage(u, h, o, 2 * i, inv_s);
+        let l_dec = linalg::leverage(u, h, o, 2 * i + 1, inv_s);
+        let d = stats::diagnostic(s, r[2 * i], r[2 * i + 1], l_ha, l_dec);
+        out[3 * i] = d.residual_sky;
+        out[3 * i + 1] = d.leverage;
+        out[3 * i + 2] = d.studentized;
+    }
+}
+
+// The first m numbers of out become those of x.
+fn copy(x: &[f64; 32], m: usize, out: &mut [f64])
+    requires { ⌜ (m ≤ 32) × (m ≤ length (now out)) ⌝ }
+    ensures { λ _. ⌜ now (out .exit) ≡ filled m (at (now (x .entry))) (now (out .entry)) ⌝ }
+{
+    for j in 0..m {
+        out[j] = x[j];
+    }
 }

@@ -1,59 +1,55 @@
+-- `single_step::residuals` meets its contract. Assumes nothing.
+use Prim.Native.Nat.{_*_}
+use native.Mathlib.Omega.{arith}
+use lib.ListN.{length}
+use lib.Ieee.{binary64, sub}
+use Rattle.single_step.proofs.Laws.{residual-left}
 use borrow.Author.Needs.{needs}
 use Rattle.single_step.proofs.residuals.Statement.{statement}
 use Rattle.single_step.proofs.residuals.Tie as tie
-use Rattle.single_step.proofs.residuals.Reads as reads
-use Rattle.single_step.proofs.residuals.Lts as lts
-use Rattle.design.proofs.build_residuals.Reads as build-residuals-reads
-use Rattle.design.proofs.subtract_from.Reads as subtract-from-reads
-use Rattle.products.proofs.product.Reads as product-reads
 
--- src/lib.rt:130:16
 mul-rows : tie.Need-mul-rows
 mul-rows c = search needs
 
--- src/lib.rt:131:13
 mul-b : tie.Need-mul-b
 mul-b c = search needs
 
--- src/lib.rt:132:47
 add-build-residuals : tie.Need-add-build-residuals
 add-build-residuals c = search needs
 
--- src/lib.rt:132:37
 mul-build-residuals : tie.Need-mul-build-residuals
 mul-build-residuals c = search needs
 
--- src/lib.rt:132:37
 sub-build-residuals : tie.Need-sub-build-residuals
 sub-build-residuals c = search needs
 
--- src/lib.rt:132:37
 part-build-residuals-start : tie.Need-part-build-residuals-start
 part-build-residuals-start c = search needs
 
--- src/lib.rt:132:37
 part-build-residuals-end : tie.Need-part-build-residuals-end
 part-build-residuals-end c = search needs
 
--- src/lib.rt:132:5
 build-residuals-requires : tie.Need-build-residuals-requires
 build-residuals-requires c κs = search needs
 
--- src/lib.rt:133:5
 product-requires : tie.Need-product-requires
 product-requires c κs = search needs
 
--- src/lib.rt:134:5
 subtract-from-requires : tie.Need-subtract-from-requires
 subtract-from-requires c κs = search needs
 
--- src/lib.rt:113:1
 same-length : tie.Need-same-length
 same-length c = search needs
 
--- src/lib.rt:113:1
 returns : tie.Need-returns
-returns c = ?
+returns c =
+    let less = c .before .before in
+    let product = less .before .before .before .before in
+    let built = product .before .before .before .before in
+    let s = built .before .before .before .before .before .before .before .before in
+    let a = s .args in
+    let n = length (a .pier .now) in
+    residual-left (sub binary64) (a .w .now) (built .build-residuals .last .1 .1 .0) _ (product .product .last .1 .1 .1 .1 .1 .1 .1 .0) _ _ (2 * n) (4 * n) (2 * n) (omega arith) (omega (arith, s .pre .5)) (built .build-residuals .kept .1 .1 .0) (built .build-residuals .ensures) (product .product .ensures) (less .subtract-from .ensures)
 
 pub residuals-spec : {M : Type 1} → statement M
 residuals-spec =
