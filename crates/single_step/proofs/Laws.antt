@@ -1,24 +1,26 @@
 -- The columns and residuals by the list of stars, and what each step of the fit leaves in scratch. Assumes nothing.
 use Prim.Native.Nat.{ℕ, _+_, _-_, _*_, _≤_, _<_}
-use native.Mathlib.Nat.{mul-le-mul-right}
+use native.Mathlib.Nat.{mul-le-mul-right, add-sub-cancel-left}
 use native.Mathlib.Omega.{arith}
 use mathlib.Core.Path.{_≡_, sym, ap, _∙_, fun-ext}
 use mathlib.Core.List.{List, zipWith}
 use lib.ListN.{length, take, drop}
 use lib.Seq.{sets}
-use lib.Ieee.{Float}
-use Rattle.float.specs.Float.{_⊗_}
-use Rattle.sequence.specs.Sequence.{at, part, Only}
+use lib.Ieee.{Float, binary64, sub}
+use Rattle.float.specs.Float.{_⊕_, _⊗_}
+use Rattle.sequence.specs.Sequence.{at, part, filled, Only}
 use Rattle.sequence.proofs.Parts.{part-sets-same, length-zip-part}
 use Rattle.sequence.proofs.Only.{only-sets, only-wider, only-then, back, back-only, back-part}
-use Rattle.linalg.specs.Linalg.{solved}
+use Rattle.linalg.specs.Linalg.{Solved, solved}
+use Rattle.column.specs.Column.{zeros}
 use Rattle.linalg.specs.declared.SolveOutcome.{SolveOutcome}
 use Rattle.validate.specs.Call.{Lent}
-use Rattle.design.specs.Design.{Star, stars, starAt, termAt, slope, cosDec, freeCount, ofFree, column, skyColumn, differences, skyDifferences, subtractAll, laid}
+use Rattle.design.specs.Design.{Star, stars, starAt, termAt, slope, cosDec, freeCount, ofFree, column, skyColumn, differences, skyDifferences, subtractAll, freeProduct, laid}
 use Rattle.design.specs.Filled.{rowsTo, columnTo, skyColumnTo, differencesTo, skyDifferencesTo}
 use Rattle.design.proofs.Rows.{rows-table}
 use Rattle.design.proofs.Free.{free-few}
-use Rattle.single_step.specs.SingleStep.{starsOf, columnOf, skyOf, heightOf, toFit, step, Fits}
+use Rattle.stats.specs.Stats.{skyRms, popnSd}
+use Rattle.single_step.specs.SingleStep.{starsOf, columnOf, skyOf, heightOf, toFit, step, changeAt, change, newCoefficients, freeResiduals, skyFrom, Fits, Stepped}
 
 -- ---- by the list of stars
 
@@ -125,3 +127,42 @@ pub residual-left : (f : Float → Float → Float) (w ys d w₁ w₂ p : List F
 residual-left f w ys d w₁ w₂ p x y n low room kept e q g =
     let long : length (back w ys y n) ≡ length w = back-only w ys y n room kept .long in
     taken-from f (back w ys y n) w₁ w₂ p x y n low (rw long room) q g .0 ∙ ap (λ (v : List Float). zipWith f v p) (back-part w ys y n room kept ∙ e)
+
+-- ---- the step and its residuals
+
+pub made-step : (l : Lent) (w w₁ w₂ : List Float) (o : SolveOutcome) (ch new : List Float) → Fits l w
+    → (record { outcome = o; w = part w₁ (8 * length (l .dh)) (freeCount (l .fixed) * heightOf l) } ≡ step l) × (part w₁ (4 * length (l .dh)) (2 * length (l .dh)) ≡ toFit l)
+    → ch ≡ filled (length (l .fixed)) (changeAt (l .fixed) (o .x)) zeros
+    → new ≡ filled (length (l .coefficients)) (λ j. at (l .coefficients) j ⊕ at ch j) zeros
+    → (part w₂ (2 * length (l .pier)) (2 * length (l .pier))
+      ≡ zipWith (sub binary64) (part w₁ (4 * length (l .pier)) (2 * length (l .pier))) (freeProduct (2 * length (l .pier)) (length (l .fixed)) (l .fixed) (o .x) (skyTo-at l)))
+      × Only 0 (2 * length (l .pier) + 2 * length (l .pier)) w₁ w₂
+    → Stepped l w₂ ch new o
+unfolding change newCoefficients freeResiduals
+made-step l w w₁ w₂ o ch new f p ec en q =
+    let n = length (l .dh) in
+    let m = length (l .coefficients) in
+    let same = f .pier-count in
+    let r : part w₂ (2 * n) (2 * n) ≡ zipWith (sub binary64) (part w₁ (4 * n) (2 * n)) (freeProduct (2 * n) (length (l .fixed)) (l .fixed) (o .x) (skyTo-at l)) = rw same at (q .0) in
+    let kept : part w₂ (8 * n) (freeCount (l .fixed) * heightOf l) ≡ part w₁ (8 * n) (freeCount (l .fixed) * heightOf l) =
+    q .1 .above (8 * n) (freeCount (l .fixed) * heightOf l) (omega (arith, same)) in
+    let c : ch ≡ filled m (changeAt (l .fixed) (step l .outcome .x)) zeros =
+    ec ∙ ap (λ (k : ℕ). filled k (changeAt (l .fixed) (o .x)) zeros) (f .fixed-count) ∙ ap (λ (s : Solved). filled m (changeAt (l .fixed) (s .outcome .x)) zeros) (p .0) in
+    record {
+      changes = c;
+      coefficients = en ∙ ap (λ (d : List Float). filled m (λ j. at (l .coefficients) j ⊕ at d j) zeros) c;
+      solution = ap (λ (u : List Float). record { outcome = o; w = u }) kept ∙ p .0;
+      left = r ∙ ap (λ (b : List Float). zipWith (sub binary64) b (freeProduct (2 * n) (length (l .fixed)) (l .fixed) (o .x) (skyTo-at l))) (p .1)
+      ∙ ap (λ (s : Solved). zipWith (sub binary64) (toFit l) (freeProduct (2 * n) (length (l .fixed)) (l .fixed) (s .outcome .x) (skyTo-at l))) (p .0)
+      ∙ ap (λ a. zipWith (sub binary64) (toFit l) (freeProduct (2 * n) (length (l .fixed)) (l .fixed) (step l .outcome .x) a)) (sky-same l same);
+    }
+
+-- what lies at 2·n in v, on the sky
+pub seen : (n free : ℕ) (cosDecs : ℕ → Float) (v r : List Float) (rms sd : Float) → part v (2 * n) (2 * n) ≡ r
+    → rms ≡ skyRms n cosDecs (take (2 * n + 2 * n - 2 * n) (drop (2 * n) v)) → sd ≡ popnSd n cosDecs (take (2 * n + 2 * n - 2 * n) (drop (2 * n) v)) free
+    → record { rms = rms; «popn_sd» = sd } ≡ skyFrom n cosDecs free r
+seen n free cosDecs v r rms sd e p q =
+    let t : take (2 * n + 2 * n - 2 * n) (drop (2 * n) v) ≡ r = ap (λ (k : ℕ). take k (drop (2 * n) v)) (add-sub-cancel-left (2 * n) (2 * n)) ∙ e in
+    let a : rms ≡ skyRms n cosDecs r = p ∙ ap (skyRms n cosDecs) t in
+    let b : sd ≡ popnSd n cosDecs r free = q ∙ ap (λ (x : List Float). popnSd n cosDecs x free) t in
+    rw (a, b)

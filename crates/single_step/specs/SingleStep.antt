@@ -6,8 +6,9 @@ use mathlib.Core.List.{List, [], _∷_, _++_, zipWith}
 use lib.ListN.{length, drop, replicate}
 use lib.Ieee.{Float, sub, binary64}
 use Rattle.float.specs.Float.{_⊕_, #0}
-use Rattle.sequence.specs.Sequence.{at, filled}
+use Rattle.sequence.specs.Sequence.{at, part, filled}
 use Rattle.column.specs.Column.{zeros}
+use Rattle.linalg.specs.declared.SolveOutcome.{SolveOutcome}
 use Rattle.linalg.specs.Linalg.{Solved, solved, leverageAfter}
 use Rattle.solver.specs.declared.Fit.{Fit}
 use Rattle.solver.specs.declared.Fit.the-variants.{Done, Refused}
@@ -18,6 +19,7 @@ use Rattle.validate.specs.Questions.{scratchNeeded, asked, noOptions}
 use Rattle.validate.specs.declared.Asked.{Asked}
 use Rattle.validate.specs.declared.Asked.the-variants.{Pass, No}
 use Rattle.design.specs.Design.{Star, stars, termAt, sheetAt, cosDec, isFree, freeBefore, freeCount, ofFree, column, skyColumn, differences, skyDifferences, subtractAll, product, freeProduct, laid}
+use Rattle.single_step.specs.declared.Sky.{Sky}
 use Rattle.stats.specs.Stats.{skyRms, popnSd, variance, sigmaAt, deviation, diagnostic}
 
 -- ---- single_step_fit
@@ -76,22 +78,27 @@ sigma l =
     let s2 = variance (freeResiduals l) (length (l .dh)) (step l .outcome .rank) in
     filled (length (l .coefficients)) (sigmaAt (l .fixed) s2 (step l .outcome .«cov_diag»)) zeros
 
+-- compute_diagnostics: of star i, from the residuals r of n stars and each row's leverage
+abbrev pub diagnosticFrom : ℕ → ℕ → List Float → (ℕ → Float) → ℕ → ObsDiagnostic
+diagnosticFrom n rank r leverage i =
+    diagnostic (deviation r (2 * n) rank) (at r (2 * i)) (at r (2 * i + 1)) (leverage (2 * i)) (leverage (2 * i + 1))
+
 unfoldable pub diagnosticOf : Lent → ℕ → ObsDiagnostic
-diagnosticOf l i =
-    let r = freeResiduals l in
-    let leverage = leverageAfter (heightOf l) (freeCount (l .fixed)) (step l) in
-    let s = deviation r (rowsOf l) (step l .outcome .rank) in
-    diagnostic s (at r (2 * i)) (at r (2 * i + 1)) (leverage (2 * i)) (leverage (2 * i + 1))
+diagnosticOf l = diagnosticFrom (length (l .dh)) (step l .outcome .rank) (freeResiduals l) (leverageAfter (heightOf l) (freeCount (l .fixed)) (step l))
+
+-- the residuals r of n stars on the sky
+abbrev pub skyFrom : ℕ → (ℕ → Float) → ℕ → List Float → Sky
+skyFrom n cosDecs free r = record { rms = skyRms n cosDecs r; «popn_sd» = popnSd n cosDecs r free }
 
 unfoldable pub result : Lent → FitResult
 result l =
     let n = length (l .dh) in
     let free = freeCount (l .fixed) in
     let o = step l .outcome in
-    let cosDecs : ℕ → Float = λ i. cosDec (sheetAt (l .sheets) i) in
+    let sky = skyFrom n (λ i. cosDec (sheetAt (l .sheets) i)) free (residuals l) in
     record {
-      «sky_rms» = skyRms n cosDecs (residuals l);
-      «popn_sd» = popnSd n cosDecs (residuals l) free;
+      «sky_rms» = sky .rms;
+      «popn_sd» = sky .«popn_sd»;
       «rank_info» = record { «n_free» = free; rank = o .rank; «sigma_max» = o .«sigma_max»; «sigma_min» = o .«sigma_min»; tol = l .fitTol };
       «iter_report» = record { iterations = 1; converged = true; «final_lambda» = #0; «final_step_norm» = #0 };
     }
@@ -144,3 +151,10 @@ pub record Fits (l : Lent) (w : List Float) : Type 0 where
   pub sheets-count : length (l .sheets) ≡ 37 * length (l .dh)
   pub some-free : 0 < freeCount (l .fixed)
   pub room : 8 * length (l .dh) + length (l .coefficients) * heightOf l ≤ length w
+
+-- what the step leaves: the changes, the new coefficients, the solver's answer with its columns, and the free terms' residuals
+pub record Stepped (l : Lent) (w change′ coefficients′ : List Float) (o : SolveOutcome) : Type 0 where
+  pub changes : change′ ≡ change l
+  pub coefficients : coefficients′ ≡ newCoefficients l
+  pub solution : record { outcome = o; w = part w (8 * length (l .dh)) (freeCount (l .fixed) * heightOf l) } ≡ step l
+  pub left : part w (2 * length (l .dh)) (2 * length (l .dh)) ≡ freeResiduals l

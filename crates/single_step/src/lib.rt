@@ -4,19 +4,32 @@
 ghost use mathlib.Core.Path.{_≡_};
 ghost use mathlib.Core.List.{_++_, zipWith};
 ghost use Prim.Native.Nat.{_+_, _*_, _≤_};
-ghost use lib.ListN.{length, drop};
+ghost use lib.ListN.{length, take, drop};
 ghost use lib.Ieee.{binary64, sub};
 ghost use Rattle.float.specs.Float.{_⊕_};
 ghost use Rattle.sequence.specs.Sequence.{at, part, filled, Only};
 ghost use Rattle.column.specs.Column.{zeros};
 ghost use Rattle.linalg.specs.Linalg.{Placed, leverageOf};
-ghost use Rattle.stats.specs.Stats.{deviation, diagnostic};
-ghost use Rattle.design.specs.Design.{termAt, freeCount, freeProduct, product};
+ghost use Rattle.stats.specs.Stats.{variance, sigmaAt};
+ghost use Rattle.design.specs.Design.{termAt, sheetAt, cosDec, freeCount, freeProduct, product};
 ghost use Rattle.design.specs.Filled.{columnTo, skyColumnTo, differencesTo};
 ghost use Rattle.products.specs.Products.{Held};
 ghost use Rattle.validate.specs.Call.{lent};
-ghost use Rattle.single_step.specs.SingleStep.{toFit, step, changeAt, threes, Fits};
+ghost use Rattle.single_step.specs.SingleStep.{toFit, step, changeAt, diagnosticFrom, skyFrom, threes, Fits, Stepped};
 use linalg::SolveOutcome;
+
+// What the step makes of the coefficients, and what the solver answered.
+struct Step {
+    pub change: [f64; 32],
+    pub coefficients: [f64; 32],
+    pub solved: SolveOutcome,
+}
+
+// What is left on the sky.
+struct Sky {
+    pub rms: f64,
+    pub popn_sd: f64,
+}
 
 // The step: the residuals at 4·n, the free columns at 8·n, and the solution.
 fn solve(
@@ -148,7 +161,7 @@ fn compute_diagnostics(
     out: &mut [f64],
 )
     requires { ⌜ Placed h (now u) (now o) × (2 * n ≤ h) × (n ≤ 1024) × (length (now r) ≡ 2 * n) × (3 * n ≤ length (now out)) ⌝ }
-    ensures { λ _. ⌜ now (out .exit) ≡ threes n (λ i. diagnostic (deviation (now (r .entry)) (2 * n) rank) (at (now (r .entry)) (2 * i)) (at (now (r .entry)) (2 * i + 1)) (leverageOf h (now (u .entry)) (now (o .entry)) (now («inv_s» .entry)) (2 * i)) (leverageOf h (now (u .entry)) (now (o .entry)) (now («inv_s» .entry)) (2 * i + 1))) ++ drop (3 * n) (now (out .entry)) ⌝ }
+    ensures { λ _. ⌜ now (out .exit) ≡ threes n (diagnosticFrom n rank (now (r .entry)) (leverageOf h (now (u .entry)) (now (o .entry)) (now («inv_s» .entry)))) ++ drop (3 * n) (now (out .entry)) ⌝ }
 {
     let s = sqrt::sqrt(stats::variance(r, 2 * n, rank));
     for i in 0..n {
@@ -169,4 +182,121 @@ fn copy(x: &[f64; 32], m: usize, out: &mut [f64])
     for j in 0..m {
         out[j] = x[j];
     }
+}
+
+// The step, and at 2·n in scratch the residuals of the free terms.
+fn single_step_fit(
+    names: &[u8],
+    fixed: &[u8],
+    coefficients: &[f64],
+    dh: &[f64],
+    dd: &[f64],
+    pier: &[u8],
+    sheets: &[f64],
+    sin_lat: f64,
+    cos_lat: f64,
+    fit_tol: f64,
+    w: &mut [f64],
+) -> Step
+    requires { ⌜ Fits (lent (now names) (now fixed) (now coefficients) (now dh) (now dd) (now pier) (now sheets) «sin_lat» «cos_lat» «fit_tol») (now w) ⌝ }
+    ensures { λ r. ⌜ Stepped (lent (now (names .entry)) (now (fixed .entry)) (now (coefficients .entry)) (now (dh .entry)) (now (dd .entry)) (now (pier .entry)) (now (sheets .entry)) «sin_lat» «cos_lat» «fit_tol») (now (w .exit)) (r .change) (r .coefficients) (r .solved) ⌝ }
+{
+    let solved = solve(
+        names,
+        fixed,
+        coefficients,
+        dh,
+        dd,
+        pier,
+        sheets,
+        sin_lat,
+        cos_lat,
+        fit_tol,
+        w,
+    );
+    let x = solved.x;
+    let change = changes(fixed, &x);
+    let new = changed(coefficients, &change);
+    free_residuals(names, fixed, pier, sheets, sin_lat, cos_lat, &x, w);
+    Step {
+        change,
+        coefficients: new,
+        solved,
+    }
+}
+
+// Sigma and the diagnostics, from the free terms' residuals at 2·n and the solved columns at 8·n.
+fn statistics(
+    fixed: &[u8],
+    n: usize,
+    m: usize,
+    solved: SolveOutcome,
+    w: &[f64],
+    sigma: &mut [f64],
+    diagnostics: &mut [f64],
+)
+    requires { ⌜ (n ≤ 1024) × (m ≤ 32) × (length (now fixed) ≡ m) × (8 * n + freeCount (now fixed) * (2 * n + 2 * m) ≤ length (now w))
+        × Placed (2 * n + 2 * m) (part (now w) (8 * n) (freeCount (now fixed) * (2 * n + 2 * m))) (take (freeCount (now fixed)) (solved .order))
+        × (length (take (freeCount (now fixed)) (solved .order)) ≡ freeCount (now fixed)) × (m ≤ length (now sigma)) × (3 * n ≤ length (now diagnostics)) ⌝ }
+    ensures { λ _. ⌜ (now (sigma .exit) ≡ filled m (at (filled m (sigmaAt (now (fixed .entry)) (variance (part (now (w .entry)) (2 * n) (2 * n)) n (solved .rank)) (solved .«cov_diag»)) zeros)) (now (sigma .entry)))
+        × (now (diagnostics .exit) ≡ threes n (diagnosticFrom n (solved .rank) (part (now (w .entry)) (2 * n) (2 * n)) (leverageOf (2 * n + 2 * m) (part (now (w .entry)) (8 * n) (freeCount (now (fixed .entry)) * (2 * n + 2 * m))) (take (freeCount (now (fixed .entry))) (solved .order)) (solved .«inv_s»))) ++ drop (3 * n) (now (diagnostics .entry))) ⌝ }
+{
+    let rows = 2 * n;
+    let h = rows + 2 * m;
+    let c = 8 * n;
+    let free = design::free_count(fixed);
+    let k = free * h;
+    let order = solved.order;
+    let inv_s = solved.inv_s;
+    let cov_diag = solved.cov_diag;
+    let s2 = stats::variance(&w[rows..rows + rows], n, solved.rank);
+    let s = stats::compute_sigma(fixed, m, s2, cov_diag);
+    copy(&s, m, sigma);
+    compute_diagnostics(
+        &w[c..c + k],
+        h,
+        &order[..free],
+        &inv_s,
+        &w[rows..rows + rows],
+        n,
+        solved.rank,
+        diagnostics,
+    );
+}
+
+// The residuals under the new coefficients, and what they come to on the sky.
+fn on_the_sky(
+    names: &[u8],
+    dh: &[f64],
+    dd: &[f64],
+    pier: &[u8],
+    sheets: &[f64],
+    sin_lat: f64,
+    cos_lat: f64,
+    coefficients: &[f64; 32],
+    m: usize,
+    free: usize,
+    w: &mut [f64],
+) -> Sky
+    requires { ⌜ Held (now names) (now pier) (now sheets) × (m ≤ 32) × (length (now names) ≡ 16 * m) × (length (now dd) ≡ length (now dh)) × (length (now pier) ≡ length (now dh)) × (6 * length (now pier) ≤ length (now w)) ⌝ }
+    ensures { λ r. ⌜ r ≡ skyFrom (length (now (pier .entry))) (λ i. cosDec (sheetAt (now (sheets .entry)) i)) free (zipWith (sub binary64) (differencesTo (now (dh .entry)) (now (dd .entry))) (product (2 * length (now (pier .entry))) m (at (now (coefficients .entry))) (λ j. columnTo «sin_lat» «cos_lat» (now (pier .entry)) (now (sheets .entry)) (termAt (now (names .entry)) j)))) ⌝ }
+{
+    residuals(
+        names,
+        dh,
+        dd,
+        pier,
+        sheets,
+        sin_lat,
+        cos_lat,
+        coefficients,
+        m,
+        w,
+    );
+    let n = pier.len();
+    let rows = 2 * n;
+    let v = &w[..];
+    let rms = stats::compute_sky_rms(sheets, &v[rows..rows + rows], n);
+    let popn_sd = stats::compute_popn_sd(sheets, &v[rows..rows + rows], n, free);
+    Sky { rms, popn_sd }
 }

@@ -1,149 +1,139 @@
+-- `single_step::compute_diagnostics` meets its contract. The invariant: the numbers of the first i stars are written. Assumes nothing.
+use Prim.Native.Nat.{ℕ, _≤_, _-_, _+_, _*_}
+use native.Mathlib.Omega.{arith}
+use mathlib.Core.Path.{_≡_, refl, _∙_}
+use mathlib.Core.List.{List, _++_}
+use lib.ListN.{length, drop, length-set}
+use lib.Ieee.{Float}
+use Rattle.sequence.specs.Sequence.{at}
+use Rattle.solver.specs.declared.ObsDiagnostic.{ObsDiagnostic}
+use Rattle.linalg.specs.Linalg.{leverageOf}
+use Rattle.stats.specs.Stats.{variance, deviation, diagnostic}
+use Rattle.single_step.specs.SingleStep.{threes}
+use Rattle.single_step.proofs.Threes.{threes-none, threes-step, threes-end}
 use Rattle.single_step.proofs.compute_diagnostics.Statement.{statement}
 use Rattle.single_step.proofs.compute_diagnostics.Tie as tie
-use Rattle.single_step.proofs.compute_diagnostics.Reads as reads
-use Rattle.single_step.proofs.compute_diagnostics.Lts as lts
-use Rattle.linalg.proofs.leverage.Reads as leverage-reads
-use Rattle.sqrt.proofs.sqrt.Reads as sqrt-reads
-use Rattle.stats.proofs.diagnostic.Reads as diagnostic-reads
-use Rattle.stats.proofs.variance.Reads as variance-reads
+
+-- what is written of star i
+abbrev diagnostic-at : ℕ → List Float → List ℕ → List Float → List Float → ℕ → ℕ → ℕ → ObsDiagnostic
+diagnostic-at h u o inv-s r n rank i = diagnostic (deviation r (2 * n) rank) (at r (2 * i)) (at r (2 * i + 1)) (leverageOf h u o inv-s (2 * i)) (leverageOf h u o inv-s (2 * i + 1))
 
 abbrev Inv-loop : tie.InvT-loop
-Inv-loop u h o inv-s r n rank out₀ s i₀ out i = ?
+Inv-loop u h o inv-s r n rank out₀ s i₀ out i = (i ≤ n) × (length out ≡ length out₀) × (s ≡ deviation r (2 * n) rank) × (out ≡ threes i (diagnostic-at h u o inv-s r n rank) ++ drop (3 * i) out₀)
 
 abbrev μ-loop : tie.MeasureT-loop
-μ-loop u h o inv-s r n rank out₀ s i₀ out i = ?
+μ-loop u h o inv-s r n rank out₀ s i₀ out i = n - i
 
--- src/lib.rt:153:43
 mul-variance : tie.Need-mul-variance Inv-loop μ-loop
-mul-variance c = ?
+mul-variance c = omega arith
 
--- src/lib.rt:153:24
 variance-requires : tie.Need-variance-requires Inv-loop μ-loop
-variance-requires c κs = ?
+variance-requires c κs = omega arith
 
--- src/lib.rt:153:9
 sqrt-requires : tie.Need-sqrt-requires Inv-loop μ-loop
-sqrt-requires c κs = ?
+sqrt-requires c κs = omega arith
 
--- src/lib.rt:154:5
+deviates : (c : tie.After-sqrt Inv-loop μ-loop) → c .sqrt .result ≡ deviation (c .before .before .before .before .before .before .args .r .now) (2 * c .before .before .before .before .before .before .args .n) (c .before .before .before .before .before .before .args .rank)
+unfolding deviation variance
+deviates c = c .sqrt .ensures ∙ rw (c .before .variance .ensures) refl
+
 loop-holds : tie.Need-loop-holds Inv-loop μ-loop
-loop-holds c = ?
+loop-holds c = (omega arith, refl, deviates c, threes-none _ _)
 
--- src/lib.rt:155:46
 mul-leverage : tie.Need-mul-leverage Inv-loop μ-loop
-mul-leverage c = ?
+mul-leverage c = omega arith
 
--- src/lib.rt:155:13
 leverage-requires : tie.Need-leverage-requires Inv-loop μ-loop
-leverage-requires c κs = ?
+leverage-requires c κs = (c .before .before .before .before .before .before .before .before .pre .0, omega arith)
 
--- src/lib.rt:156:47
 mul-leverage-2 : tie.Need-mul-leverage-2 Inv-loop μ-loop
-mul-leverage-2 c = ?
+mul-leverage-2 c = omega arith
 
--- src/lib.rt:156:47
 add-leverage : tie.Need-add-leverage Inv-loop μ-loop
-add-leverage c = ?
+add-leverage c = omega arith
 
--- src/lib.rt:156:13
 leverage-requires-2 : tie.Need-leverage-requires-2 Inv-loop μ-loop
-leverage-requires-2 c κs = ?
+leverage-requires-2 c κs = (c .before .before .before .before .before .before .before .before .before .pre .0, omega arith)
 
--- src/lib.rt:157:40
 mul-diagnostic : tie.Need-mul-diagnostic Inv-loop μ-loop
-mul-diagnostic c = ?
+mul-diagnostic c = omega arith
 
--- src/lib.rt:157:38
 mul-diagnostic-2 : tie.Need-mul-diagnostic-2 Inv-loop μ-loop
-mul-diagnostic-2 c = ?
+mul-diagnostic-2 c = omega arith
 
--- src/lib.rt:157:38
 shared-slice-read-diagnostic : tie.Need-shared-slice-read-diagnostic Inv-loop μ-loop
-shared-slice-read-diagnostic c = ?
+shared-slice-read-diagnostic c = omega arith
 
--- src/lib.rt:157:50
 mul-diagnostic-3 : tie.Need-mul-diagnostic-3 Inv-loop μ-loop
-mul-diagnostic-3 c = ?
+mul-diagnostic-3 c = omega arith
 
--- src/lib.rt:157:50
 add-diagnostic : tie.Need-add-diagnostic Inv-loop μ-loop
-add-diagnostic c = ?
+add-diagnostic c = omega arith
 
--- src/lib.rt:157:48
 mul-diagnostic-4 : tie.Need-mul-diagnostic-4 Inv-loop μ-loop
-mul-diagnostic-4 c = ?
+mul-diagnostic-4 c = omega arith
 
--- src/lib.rt:157:48
 shared-slice-read-diagnostic-2 : tie.Need-shared-slice-read-diagnostic-2 Inv-loop μ-loop
-shared-slice-read-diagnostic-2 c = ?
+shared-slice-read-diagnostic-2 c = omega arith
 
--- src/lib.rt:157:13
 diagnostic-requires : tie.Need-diagnostic-requires Inv-loop μ-loop
-diagnostic-requires c κs = ?
+diagnostic-requires c κs = omega arith
 
--- src/lib.rt:158:13
 mul-out : tie.Need-mul-out Inv-loop μ-loop
-mul-out c = ?
+mul-out c = omega arith
 
--- src/lib.rt:158:9
 mul-out-2 : tie.Need-mul-out-2 Inv-loop μ-loop
-mul-out-2 c = ?
+mul-out-2 c = omega arith
 
--- src/lib.rt:158:9
 slice-write-out : tie.Need-slice-write-out Inv-loop μ-loop
-slice-write-out c = ?
+slice-write-out c = omega arith
 
--- src/lib.rt:159:13
 mul-out-3 : tie.Need-mul-out-3 Inv-loop μ-loop
-mul-out-3 c = ?
+mul-out-3 c = omega arith
 
--- src/lib.rt:159:13
 add-out : tie.Need-add-out Inv-loop μ-loop
-add-out c = ?
+add-out c = omega arith
 
--- src/lib.rt:159:9
 mul-out-4 : tie.Need-mul-out-4 Inv-loop μ-loop
-mul-out-4 c = ?
+mul-out-4 c = omega arith
 
--- src/lib.rt:159:9
 slice-write-out-2 : tie.Need-slice-write-out-2 Inv-loop μ-loop
-slice-write-out-2 c = ?
+slice-write-out-2 c = simp length-set (omega arith)
 
--- src/lib.rt:160:13
 mul-out-5 : tie.Need-mul-out-5 Inv-loop μ-loop
-mul-out-5 c = ?
+mul-out-5 c = omega arith
 
--- src/lib.rt:160:13
 add-out-2 : tie.Need-add-out-2 Inv-loop μ-loop
-add-out-2 c = ?
+add-out-2 c = omega arith
 
--- src/lib.rt:160:9
 mul-out-6 : tie.Need-mul-out-6 Inv-loop μ-loop
-mul-out-6 c = ?
+mul-out-6 c = omega arith
 
--- src/lib.rt:160:9
 slice-write-out-3 : tie.Need-slice-write-out-3 Inv-loop μ-loop
-slice-write-out-3 c = ?
+slice-write-out-3 c = simp length-set (omega arith)
 
--- src/lib.rt:154:9
 add-i : tie.Need-add-i Inv-loop μ-loop
-add-i c = ?
+add-i c = omega arith
 
--- src/lib.rt:154:5
 loop-less : tie.Need-loop-less Inv-loop μ-loop
-loop-less c = ?
+loop-less c = omega arith
 
--- src/lib.rt:154:5
 loop-again : tie.Need-loop-again Inv-loop μ-loop
-loop-again c = ?
+loop-again c =
+    let second = c .before .before .before in
+    let first = second .before in
+    let u = first .before .before .loop in
+    let a = c .before .before .before .before .before .before .before .before .before .before .before .before .before .args in
+    (omega arith, simp length-set (u .inv .1), u .inv .2, threes-step (diagnostic-at (a .h) (a .u .now) (a .o .now) (a .inv-s .now) (a .r .now) (a .n) (a .rank)) (u .i) (a .out .now) (u .out) (c .diagnostic .result) (omega (arith, c .before .before .before .before .before .before .before .before .before .before .before .before .before .pre .4)) (u .inv .3) (c .diagnostic .ensures ∙ rw (second .leverage2 .ensures, first .leverage .ensures, u .inv .2) refl))
 
--- src/lib.rt:140:1
 same-length : tie.Need-same-length Inv-loop μ-loop
-same-length c = ?
+same-length c = omega arith
 
--- src/lib.rt:140:1
 returns : tie.Need-returns Inv-loop μ-loop
-returns c = ?
+returns c =
+    let u = c .before .loop in
+    let a = c .before .before .before .before .before .before .before .before .args in
+    threes-end (diagnostic-at (a .h) (a .u .now) (a .o .now) (a .inv-s .now) (a .r .now) (a .n) (a .rank)) (u .i) (a .n) (a .out .now) (u .out) (omega arith) (u .inv .3)
 
 pub compute-diagnostics-spec : {M : Type 1} → statement M
 compute-diagnostics-spec =

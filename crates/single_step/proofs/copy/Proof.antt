@@ -1,53 +1,54 @@
+-- `single_step::copy` meets its contract. The invariant: the first j places are filled. Assumes nothing.
+use Prim.Native.Nat.{_≤_, _-_}
+use native.Mathlib.Omega.{arith}
+use mathlib.Core.Path.{_≡_, refl}
+use lib.ListN.{length, length-set}
+use Rattle.sequence.specs.Sequence.{at, filled}
+use Rattle.sequence.proofs.Fills.{filled-none, stored, filled-end}
 use Rattle.single_step.proofs.copy.Statement.{statement}
 use Rattle.single_step.proofs.copy.Tie as tie
-use Rattle.single_step.proofs.copy.Reads as reads
-use Rattle.single_step.proofs.copy.Lts as lts
 
 abbrev Inv-loop : tie.InvT-loop
-Inv-loop x m out₀ j₀ out j = ?
+Inv-loop x m out₀ j₀ out j = (j ≤ m) × (length out ≡ length out₀) × (out ≡ filled j (at x) out₀)
 
 abbrev μ-loop : tie.MeasureT-loop
-μ-loop x m out₀ j₀ out j = ?
+μ-loop x m out₀ j₀ out j = m - j
 
--- src/lib.rt:169:5
 loop-holds : tie.Need-loop-holds Inv-loop μ-loop
-loop-holds c = ?
+loop-holds c = (omega arith, refl, filled-none _ _)
 
--- src/lib.rt:170:18
 mul-out : tie.Need-mul-out Inv-loop μ-loop
-mul-out c = ?
+mul-out c = omega arith
 
--- src/lib.rt:170:18
 element-copy-out-out : tie.Need-element-copy-out-out Inv-loop μ-loop
-element-copy-out-out c = ?
+element-copy-out-out c = omega arith
 
--- src/lib.rt:170:9
 mul-out-2 : tie.Need-mul-out-2 Inv-loop μ-loop
-mul-out-2 c = ?
+mul-out-2 c = omega arith
 
--- src/lib.rt:170:9
 slice-write-out : tie.Need-slice-write-out Inv-loop μ-loop
-slice-write-out c = ?
+slice-write-out c = omega arith
 
--- src/lib.rt:169:9
 add-j : tie.Need-add-j Inv-loop μ-loop
-add-j c = ?
+add-j c = omega arith
 
--- src/lib.rt:169:5
 loop-less : tie.Need-loop-less Inv-loop μ-loop
-loop-less c = ?
+loop-less c = omega arith
 
--- src/lib.rt:169:5
 loop-again : tie.Need-loop-again Inv-loop μ-loop
-loop-again c = ?
+loop-again c =
+    let u = c .before .before .loop in
+    let a = c .before .before .before .args in
+    (omega arith, simp length-set (u .inv .1), stored (at (a .x .now)) (u .j) (a .out .now) (u .out) _ (omega arith) (u .inv .2) refl)
 
--- src/lib.rt:165:1
 same-length : tie.Need-same-length Inv-loop μ-loop
-same-length c = ?
+same-length c = omega arith
 
--- src/lib.rt:165:1
 returns : tie.Need-returns Inv-loop μ-loop
-returns c = ?
+returns c =
+    let u = c .before .loop in
+    let a = c .before .before .args in
+    filled-end (at (a .x .now)) (u .j) (a .m) (a .out .now) (u .out) (omega arith) (omega arith) (u .inv .2)
 
 pub copy-spec : {M : Type 1} → statement M
 copy-spec =
