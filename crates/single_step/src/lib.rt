@@ -14,9 +14,15 @@ ghost use Rattle.stats.specs.Stats.{variance, sigmaAt};
 ghost use Rattle.design.specs.Design.{termAt, sheetAt, cosDec, freeCount, freeProduct, product};
 ghost use Rattle.design.specs.Filled.{columnTo, skyColumnTo, differencesTo};
 ghost use Rattle.products.specs.Products.{Held};
-ghost use Rattle.validate.specs.Call.{lent};
-ghost use Rattle.single_step.specs.SingleStep.{toFit, step, changeAt, diagnosticFrom, skyFrom, threes, Fits, Stepped};
+ghost use Rattle.validate.specs.Call.{lent, buffers, sizesOf};
+ghost use Rattle.validate.specs.Questions.{Ready};
+ghost use Rattle.single_step.specs.SingleStep.{toFit, step, changeAt, diagnosticFrom, skyFrom, threes, outcome, fitted, fitOutcome, Fits, Stepped};
 use linalg::SolveOutcome;
+use solver::Fit;
+use solver::FitResult;
+use solver::IterReport;
+use solver::RankInfo;
+use validate::Asked;
 
 // What the step makes of the coefficients, and what the solver answered.
 struct Step {
@@ -299,4 +305,147 @@ fn on_the_sky(
     let rms = stats::compute_sky_rms(sheets, &v[rows..rows + rows], n);
     let popn_sd = stats::compute_popn_sd(sheets, &v[rows..rows + rows], n, free);
     Sky { rms, popn_sd }
+}
+
+// A fit whose questions are all passed.
+fn fit(
+    names: &[u8],
+    fixed: &[u8],
+    coefficients: &[f64],
+    dh: &[f64],
+    dd: &[f64],
+    pier: &[u8],
+    sheets: &[f64],
+    sin_lat: f64,
+    cos_lat: f64,
+    fit_tol: f64,
+    out: &mut [f64],
+    change: &mut [f64],
+    sigma: &mut [f64],
+    diagnostics: &mut [f64],
+    scratch: &mut [f64],
+) -> FitResult
+    requires { ⌜ Ready (lent (now names) (now fixed) (now coefficients) (now dh) (now dd) (now pier) (now sheets) «sin_lat» «cos_lat» «fit_tol») (sizesOf (buffers (now out) (now change) (now sigma) (now diagnostics) (now scratch))) ⌝ }
+    ensures { λ r. ⌜ outcome (Fit.Done r) (buffers (now (out .exit)) (now (change .exit)) (now (sigma .exit)) (now (diagnostics .exit)) (now (scratch .exit)))
+        ≡ fitted (lent (now (names .entry)) (now (fixed .entry)) (now (coefficients .entry)) (now (dh .entry)) (now (dd .entry)) (now (pier .entry)) (now (sheets .entry)) «sin_lat» «cos_lat» «fit_tol») (buffers (now (out .entry)) (now (change .entry)) (now (sigma .entry)) (now (diagnostics .entry)) (now (scratch .entry))) ⌝ }
+{
+    let m = coefficients.len();
+    let n = dh.len();
+    let need = validate::scratch_needed(m, n);
+    let free = design::free_count(fixed);
+    let step = single_step_fit(
+        names,
+        fixed,
+        coefficients,
+        dh,
+        dd,
+        pier,
+        sheets,
+        sin_lat,
+        cos_lat,
+        fit_tol,
+        scratch,
+    );
+    let new = step.coefficients;
+    let moved = step.change;
+    let solved = step.solved;
+    let rank = solved.rank;
+    let sigma_max = solved.sigma_max;
+    let sigma_min = solved.sigma_min;
+    copy(&new, m, out);
+    copy(&moved, m, change);
+    statistics(fixed, n, m, solved, scratch, sigma, diagnostics);
+    let sky = on_the_sky(
+        names,
+        dh,
+        dd,
+        pier,
+        sheets,
+        sin_lat,
+        cos_lat,
+        &new,
+        m,
+        free,
+        scratch,
+    );
+    sequence::fill(&mut scratch[..need], 0.0);
+    FitResult {
+        sky_rms: sky.rms,
+        popn_sd: sky.popn_sd,
+        rank_info: RankInfo {
+            n_free: free,
+            rank,
+            sigma_max,
+            sigma_min,
+            tol: fit_tol,
+        },
+        iter_report: IterReport {
+            iterations: 1,
+            converged: true,
+            final_lambda: 0.0,
+            final_step_norm: 0.0,
+        },
+    }
+}
+
+// The single-step fit of m terms to n stars: the new coefficients, their change and sigma, and three numbers a star, or the number of the
+// first question that is answered no, which leaves every buffer as it was.
+pub fn fit_model(
+    names: &[u8],
+    fixed: &[u8],
+    coefficients: &[f64],
+    dh: &[f64],
+    dd: &[f64],
+    pier: &[u8],
+    sheets: &[f64],
+    sin_lat: f64,
+    cos_lat: f64,
+    fit_tol: f64,
+    out: &mut [f64],
+    change: &mut [f64],
+    sigma: &mut [f64],
+    diagnostics: &mut [f64],
+    scratch: &mut [f64],
+) -> Fit
+    ensures { λ r. ⌜ outcome r (buffers (now (out .exit)) (now (change .exit)) (now (sigma .exit)) (now (diagnostics .exit)) (now (scratch .exit)))
+        ≡ fitOutcome (lent (now (names .entry)) (now (fixed .entry)) (now (coefficients .entry)) (now (dh .entry)) (now (dd .entry)) (now (pier .entry)) (now (sheets .entry)) «sin_lat» «cos_lat» «fit_tol») (buffers (now (out .entry)) (now (change .entry)) (now (sigma .entry)) (now (diagnostics .entry)) (now (scratch .entry))) ⌝ }
+{
+    let asked = validate::questions(
+        names,
+        fixed,
+        coefficients,
+        dh,
+        dd,
+        pier,
+        sheets,
+        sin_lat,
+        cos_lat,
+        fit_tol,
+        validate::no_options(),
+        out.len(),
+        change.len(),
+        sigma.len(),
+        diagnostics.len(),
+        scratch.len(),
+    );
+    match asked {
+        Asked::No(k) => Fit::Refused(k),
+        Asked::Pass(_free) => Fit::Done(fit(
+            names,
+            fixed,
+            coefficients,
+            dh,
+            dd,
+            pier,
+            sheets,
+            sin_lat,
+            cos_lat,
+            fit_tol,
+            out,
+            change,
+            sigma,
+            diagnostics,
+            scratch,
+        )),
+    }
 }
