@@ -6,7 +6,7 @@ use mathlib.Core.List.{List, [], _∷_, _++_, zipWith}
 use lib.ListN.{length, drop, replicate}
 use lib.Ieee.{Float, sub, binary64}
 use Rattle.float.specs.Float.{_⊕_, #0}
-use Rattle.sequence.specs.Sequence.{at, part, filled}
+use Rattle.sequence.specs.Sequence.{at, part, filled, Only}
 use Rattle.column.specs.Column.{zeros}
 use Rattle.linalg.specs.declared.SolveOutcome.{SolveOutcome}
 use Rattle.linalg.specs.Linalg.{Solved, solved, leverageAfter}
@@ -153,8 +153,9 @@ pub record Fits (l : Lent) (w : List Float) : Type 0 where
   pub room : 8 * length (l .dh) + length (l .coefficients) * heightOf l ≤ length w
 
 -- what the step leaves: the changes, the new coefficients, the solver's answer with its columns, and the free terms' residuals
-pub record Stepped (l : Lent) (w change′ coefficients′ : List Float) (o : SolveOutcome) : Type 0 where
+pub record Stepped (l : Lent) (w₀ w change′ coefficients′ : List Float) (o : SolveOutcome) : Type 0 where
   pub changes : change′ ≡ change l
   pub coefficients : coefficients′ ≡ newCoefficients l
   pub solution : record { outcome = o; w = part w (8 * length (l .dh)) (freeCount (l .fixed) * heightOf l) } ≡ step l
   pub left : part w (2 * length (l .dh)) (2 * length (l .dh)) ≡ freeResiduals l
+  pub only : Only 0 (8 * length (l .dh) + length (l .coefficients) * heightOf l) w₀ w

@@ -55,7 +55,8 @@ fn solve(
     ensures { λ r. ⌜ (record { outcome = r; w = part (now (w .exit)) (8 * length (now (dh .entry))) (freeCount (now (fixed .entry)) * (2 * length (now (dh .entry)) + 2 * length (now (coefficients .entry)))) }
         ≡ step (lent (now (names .entry)) (now (fixed .entry)) (now (coefficients .entry)) (now (dh .entry)) (now (dd .entry)) (now (pier .entry)) (now (sheets .entry)) «sin_lat» «cos_lat» «fit_tol»))
         × (part (now (w .exit)) (4 * length (now (dh .entry))) (2 * length (now (dh .entry)))
-        ≡ toFit (lent (now (names .entry)) (now (fixed .entry)) (now (coefficients .entry)) (now (dh .entry)) (now (dd .entry)) (now (pier .entry)) (now (sheets .entry)) «sin_lat» «cos_lat» «fit_tol»)) ⌝ }
+        ≡ toFit (lent (now (names .entry)) (now (fixed .entry)) (now (coefficients .entry)) (now (dh .entry)) (now (dd .entry)) (now (pier .entry)) (now (sheets .entry)) «sin_lat» «cos_lat» «fit_tol»))
+        × Only 0 (8 * length (now (dh .entry)) + length (now (coefficients .entry)) * (2 * length (now (dh .entry)) + 2 * length (now (coefficients .entry)))) (now (w .entry)) (now (w .exit)) ⌝ }
 {
     let n = dh.len();
     let rows = 2 * n;
@@ -144,8 +145,9 @@ fn residuals(
     w: &mut [f64],
 )
     requires { ⌜ Held (now names) (now pier) (now sheets) × (m ≤ 32) × (length (now names) ≡ 16 * m) × (length (now dd) ≡ length (now dh)) × (length (now pier) ≡ length (now dh)) × (6 * length (now pier) ≤ length (now w)) ⌝ }
-    ensures { λ _. ⌜ part (now (w .exit)) (2 * length (now (pier .entry))) (2 * length (now (pier .entry)))
-        ≡ zipWith (sub binary64) (differencesTo (now (dh .entry)) (now (dd .entry))) (product (2 * length (now (pier .entry))) m (at (now (coefficients .entry))) (λ j. columnTo «sin_lat» «cos_lat» (now (pier .entry)) (now (sheets .entry)) (termAt (now (names .entry)) j))) ⌝ }
+    ensures { λ _. ⌜ (part (now (w .exit)) (2 * length (now (pier .entry))) (2 * length (now (pier .entry)))
+        ≡ zipWith (sub binary64) (differencesTo (now (dh .entry)) (now (dd .entry))) (product (2 * length (now (pier .entry))) m (at (now (coefficients .entry))) (λ j. columnTo «sin_lat» «cos_lat» (now (pier .entry)) (now (sheets .entry)) (termAt (now (names .entry)) j))))
+        × Only 0 (4 * length (now (pier .entry)) + 2 * length (now (pier .entry))) (now (w .entry)) (now (w .exit)) ⌝ }
 {
     let n = pier.len();
     let rows = 2 * n;
@@ -205,7 +207,7 @@ fn single_step_fit(
     w: &mut [f64],
 ) -> Step
     requires { ⌜ Fits (lent (now names) (now fixed) (now coefficients) (now dh) (now dd) (now pier) (now sheets) «sin_lat» «cos_lat» «fit_tol») (now w) ⌝ }
-    ensures { λ r. ⌜ Stepped (lent (now (names .entry)) (now (fixed .entry)) (now (coefficients .entry)) (now (dh .entry)) (now (dd .entry)) (now (pier .entry)) (now (sheets .entry)) «sin_lat» «cos_lat» «fit_tol») (now (w .exit)) (r .change) (r .coefficients) (r .solved) ⌝ }
+    ensures { λ r. ⌜ Stepped (lent (now (names .entry)) (now (fixed .entry)) (now (coefficients .entry)) (now (dh .entry)) (now (dd .entry)) (now (pier .entry)) (now (sheets .entry)) «sin_lat» «cos_lat» «fit_tol») (now (w .entry)) (now (w .exit)) (r .change) (r .coefficients) (r .solved) ⌝ }
 {
     let solved = solve(
         names,
@@ -285,7 +287,8 @@ fn on_the_sky(
     w: &mut [f64],
 ) -> Sky
     requires { ⌜ Held (now names) (now pier) (now sheets) × (m ≤ 32) × (length (now names) ≡ 16 * m) × (length (now dd) ≡ length (now dh)) × (length (now pier) ≡ length (now dh)) × (6 * length (now pier) ≤ length (now w)) ⌝ }
-    ensures { λ r. ⌜ r ≡ skyFrom (length (now (pier .entry))) (λ i. cosDec (sheetAt (now (sheets .entry)) i)) free (zipWith (sub binary64) (differencesTo (now (dh .entry)) (now (dd .entry))) (product (2 * length (now (pier .entry))) m (at (now (coefficients .entry))) (λ j. columnTo «sin_lat» «cos_lat» (now (pier .entry)) (now (sheets .entry)) (termAt (now (names .entry)) j)))) ⌝ }
+    ensures { λ r. ⌜ (r ≡ skyFrom (length (now (pier .entry))) (λ i. cosDec (sheetAt (now (sheets .entry)) i)) free (zipWith (sub binary64) (differencesTo (now (dh .entry)) (now (dd .entry))) (product (2 * length (now (pier .entry))) m (at (now (coefficients .entry))) (λ j. columnTo «sin_lat» «cos_lat» (now (pier .entry)) (now (sheets .entry)) (termAt (now (names .entry)) j)))))
+        × Only 0 (4 * length (now (pier .entry)) + 2 * length (now (pier .entry))) (now (w .entry)) (now (w .exit)) ⌝ }
 {
     residuals(
         names,

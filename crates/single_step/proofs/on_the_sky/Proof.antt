@@ -59,7 +59,7 @@ returns c =
     let left = rms .before .before .before .before .before in
     let a = left .before .before .before .before .before .before .before .before .args in
     let cosDecs : ℕ → Float = λ i. cosDec (sheetAt (a .sheets .now) i) in
-    seen (length (a .pier .now)) (a .free) cosDecs (left .residuals .last .1 .1 .1 .1 .1 .1 .1 .1 .1 .0) _ _ _ (left .residuals .ensures) (rms .compute-sky-rms .ensures) (c .compute-popn-sd .ensures)
+    (seen (length (a .pier .now)) (a .free) cosDecs (left .residuals .last .1 .1 .1 .1 .1 .1 .1 .1 .1 .0) _ _ _ (left .residuals .ensures .0) (rms .compute-sky-rms .ensures) (c .compute-popn-sd .ensures), left .residuals .ensures .1)
 
 pub on-the-sky-spec : {M : Type 1} → statement M
 on-the-sky-spec =
