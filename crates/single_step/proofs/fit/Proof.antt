@@ -1,79 +1,82 @@
+-- `single_step::fit` meets its contract. Assumes nothing.
+use mathlib.Core.Path.{_≡_, sym, _∙_}
+use Prim.Native.Nat.{_≤_}
+use native.Mathlib.Omega.{arith}
+use lib.ListN.{length, length-append, length-drop, length-replicate}
+use lib.Seq.{length-take-le}
+use Rattle.validate.specs.Call.{lent, buffers}
+use Rattle.single_step.proofs.Outcome.{fits-ready, placed-step, whole}
 use borrow.Author.Needs.{needs}
 use Rattle.single_step.proofs.fit.Statement.{statement}
 use Rattle.single_step.proofs.fit.Tie as tie
-use Rattle.single_step.proofs.fit.Reads as reads
-use Rattle.single_step.proofs.fit.Lts as lts
-use Rattle.design.proofs.free_count.Reads as free-count-reads
-use Rattle.sequence.proofs.fill.Reads as fill-reads
-use Rattle.single_step.proofs.copy.Reads as copy-reads
-use Rattle.single_step.proofs.on_the_sky.Reads as on-the-sky-reads
-use Rattle.single_step.proofs.single_step_fit.Reads as single-step-fit-reads
-use Rattle.single_step.proofs.statistics.Reads as statistics-reads
-use Rattle.validate.proofs.scratch_needed.Reads as scratch-needed-reads
 
--- src/lib.rt:334:9
 scratch-needed-requires : tie.Need-scratch-needed-requires
 scratch-needed-requires c κs = search needs
 
--- src/lib.rt:335:9
 free-count-requires : tie.Need-free-count-requires
 free-count-requires c κs = search needs
 
--- src/lib.rt:336:9
 single-step-fit-requires : tie.Need-single-step-fit-requires
-single-step-fit-requires c κs = ?
+single-step-fit-requires c κs = let s = c .before .before .before .before .before .before .before .before .before .before .before .before .before .before .before in let a = s .args in let f = fits-ready (lent (a .names .now) (a .fixed .now) (a .coefficients .now) (a .dh .now) (a .dd .now) (a .pier .now) (a .sheets .now) (a .sin-lat) (a .cos-lat) (a .fit-tol)) (buffers (a .out .now) (a .change .now) (a .sigma .now) (a .diagnostics .now) (a .scratch .now)) (s .pre) in f
 
--- src/lib.rt:355:5
 copy-requires : tie.Need-copy-requires
-copy-requires c κs = ?
+copy-requires c κs = let s = c .before .before .before .before .before .before .before .before .before .before .before .before .before .before .before .before .before .before .before .before .before .before .before in (s .pre .terms, s .pre .coefficients-room)
 
--- src/lib.rt:356:5
 copy-requires-2 : tie.Need-copy-requires-2
-copy-requires-2 c κs = ?
+copy-requires-2 c κs = let s = c .before .before .before .before .before .before .before .before .before .before .before .before .before .before .before .before .before .before .before .before .before .before .before .before .before .before .before .before in (s .pre .terms, s .pre .change-room)
 
--- src/lib.rt:357:5
 statistics-requires : tie.Need-statistics-requires
-statistics-requires c κs = ?
+statistics-requires c κs =
+    let t = c .before .before .before .before .before .before .before .before .before .before .before .before .before .before .before .before .before .before .single-step-fit in
+    let s = c .before .before .before .before .before .before .before .before .before .before .before .before .before .before .before .before .before .before .before .before .before .before .before .before .before .before .before .before .before .before .before .before .before .before in let a = s .args in let f = fits-ready (lent (a .names .now) (a .fixed .now) (a .coefficients .now) (a .dh .now) (a .dd .now) (a .pier .now) (a .sheets .now) (a .sin-lat) (a .cos-lat) (a .fit-tol)) (buffers (a .out .now) (a .change .now) (a .sigma .now) (a .diagnostics .now) (a .scratch .now)) (s .pre) in
+    let p = placed-step (lent (a .names .now) (a .fixed .now) (a .coefficients .now) (a .dh .now) (a .dd .now) (a .pier .now) (a .sheets .now) (a .sin-lat) (a .cos-lat) (a .fit-tol)) (a .scratch .now) _ _ _ _ f (t .ensures) in
+    (s .pre .stars, s .pre .terms, s .pre .fixed-count, p .0, p .1, p .2, s .pre .sigma-room, s .pre .diagnostics-room)
 
--- src/lib.rt:358:9
 on-the-sky-requires : tie.Need-on-the-sky-requires
-on-the-sky-requires c κs = ?
+on-the-sky-requires c κs =
+    let t = c .before .before .before .before .before .before .before .before .before .before .before .before .before .before .before .before .before .before .before .before .before .before .before .before .before .single-step-fit in
+    let s = c .before .before .before .before .before .before .before .before .before .before .before .before .before .before .before .before .before .before .before .before .before .before .before .before .before .before .before .before .before .before .before .before .before .before .before .before .before .before .before .before .before in let a = s .args in let f = fits-ready (lent (a .names .now) (a .fixed .now) (a .coefficients .now) (a .dh .now) (a .dd .now) (a .pier .now) (a .sheets .now) (a .sin-lat) (a .cos-lat) (a .fit-tol)) (buffers (a .out .now) (a .change .now) (a .sigma .now) (a .diagnostics .now) (a .scratch .now)) (s .pre) in
+    (record { few = omega (arith, s .pre .names-count, s .pre .terms); stars = omega (arith, s .pre .pier-count, s .pre .stars); sheets-count = omega (arith, s .pre .pier-count, s .pre .sheets-count) },
+    s .pre .terms, s .pre .names-count, s .pre .dd-count, s .pre .pier-count, omega (arith, s .pre .pier-count, f .room, t .ensures .only .long))
 
--- src/lib.rt:371:20
 slice-relend-prefix-fill : tie.Need-slice-relend-prefix-fill
-slice-relend-prefix-fill c = ?
+slice-relend-prefix-fill c =
+    let k = c .before .before .before .before .before .before .before .before .before .before .before .before .before .before .before .before .before .before .before .before .before .before .before .before .before .before .before .before .before .before .before in
+    let s = c .before .before .before .before .before .before .before .before .before .before .before .before .before .before .before .before .before .before .before .before .before .before .before .before .before .before .before .before .before .before .before .before .before .before .before .before .before .before .before .before .before .before .before .before in
+    omega (arith, s .pre .scratch-room, k .scratch-needed .ensures, c .before .before .on-the-sky .ensures .1 .long, c .before .before .before .before .before .before .before .before .before .before .before .before .before .before .before .before .before .before .before .before .before .before .before .before .before .before .before .before .single-step-fit .ensures .only .long)
 
--- src/lib.rt:371:20
 slice-aggregate-fill : tie.Need-slice-aggregate-fill
-slice-aggregate-fill c = ?
+slice-aggregate-fill c =
+    let k = c .before .before .before .before .before .before .before .before .before .before .before .before .before .before .before .before .before .before .before .before .before .before .before .before .before .before .before .before .before .before .before .before in
+    let s = c .before .before .before .before .before .before .before .before .before .before .before .before .before .before .before .before .before .before .before .before .before .before .before .before .before .before .before .before .before .before .before .before .before .before .before .before .before .before .before .before .before .before .before .before .before in
+    sym (length-take-le (k .scratch-needed .result) (c .before .before .before .on-the-sky .last .1 .1 .1 .1 .1 .1 .1 .1 .1 .1 .0) (omega (arith, s .pre .scratch-room, k .scratch-needed .ensures, c .before .before .before .on-the-sky .ensures .1 .long, c .before .before .before .before .before .before .before .before .before .before .before .before .before .before .before .before .before .before .before .before .before .before .before .before .before .before .before .before .before .single-step-fit .ensures .only .long)))
 
--- src/lib.rt:371:5
 fill-requires : tie.Need-fill-requires
 fill-requires c κs = search needs
 
--- src/lib.rt:311:1
 same-length : tie.Need-same-length
 same-length c = search needs
 
--- src/lib.rt:311:1
 same-length-2 : tie.Need-same-length-2
 same-length-2 c = search needs
 
--- src/lib.rt:311:1
 same-length-3 : tie.Need-same-length-3
 same-length-3 c = search needs
 
--- src/lib.rt:311:1
 same-length-4 : tie.Need-same-length-4
 same-length-4 c = search needs
 
--- src/lib.rt:311:1
 same-length-5 : tie.Need-same-length-5
-same-length-5 c = ?
+same-length-5 c = omega arith
 
--- src/lib.rt:311:1
 returns : tie.Need-returns
-returns c = ?
+returns c =
+    let k = c .before .before .before .before .before .before .before .before .before .before .before .before .before .before .before .before .before .before .before .before .before .before .before .before .before .before .before .before .before .before .before .before .before .before .before in
+    let sky = c .before .before .before .before .before .before .on-the-sky in
+    let t = c .before .before .before .before .before .before .before .before .before .before .before .before .before .before .before .before .before .before .before .before .before .before .before .before .before .before .before .before .before .before .before .before .single-step-fit in
+    let s = c .before .before .before .before .before .before .before .before .before .before .before .before .before .before .before .before .before .before .before .before .before .before .before .before .before .before .before .before .before .before .before .before .before .before .before .before .before .before .before .before .before .before .before .before .before .before .before .before in let a = s .args in let f = fits-ready (lent (a .names .now) (a .fixed .now) (a .coefficients .now) (a .dh .now) (a .dd .now) (a .pier .now) (a .sheets .now) (a .sin-lat) (a .cos-lat) (a .fit-tol)) (buffers (a .out .now) (a .change .now) (a .sigma .now) (a .diagnostics .now) (a .scratch .now)) (s .pre) in
+    let room : k .scratch-needed .result ≤ length (sky .last .1 .1 .1 .1 .1 .1 .1 .1 .1 .1 .0) = omega (arith, s .pre .scratch-room, k .scratch-needed .ensures, sky .ensures .1 .long, t .ensures .only .long) in
+    whole (lent (a .names .now) (a .fixed .now) (a .coefficients .now) (a .dh .now) (a .dd .now) (a .pier .now) (a .sheets .now) (a .sin-lat) (a .cos-lat) (a .fit-tol)) (buffers (a .out .now) (a .change .now) (a .sigma .now) (a .diagnostics .now) (a .scratch .now)) (t .last .1 .1 .1 .1 .1 .1 .1 .1 .1 .1 .0) (sky .last .1 .1 .1 .1 .1 .1 .1 .1 .1 .1 .0) (c .before .before .fill .last .0) _ _ _ _ _ _ _ (c .before .before .before .before .before .before .before .before .before .before .before .before .before .before .before .before .before .before .before .before .before .before .before .before .before .before .before .before .before .before .before .before .before .before .free-count .result) (k .scratch-needed .result) (sky .result) f (c .before .before .before .before .before .before .before .before .before .before .before .before .before .before .before .before .before .before .before .before .before .before .before .before .before .before .before .before .before .before .before .before .before .before .free-count .ensures) (k .scratch-needed .ensures) (t .ensures) (c .before .before .before .before .before .before .before .before .before .before .before .before .before .before .before .before .before .before .before .before .before .before .before .before .copy .ensures) (c .before .before .before .before .before .before .before .before .before .before .before .before .before .before .before .before .before .before .before .copy2 .ensures) (c .before .before .before .before .before .before .before .before .before .before .before .before .before .statistics .ensures) (sky .ensures) room (c .before .before .fill .ensures)
 
 pub fit-spec : {M : Type 1} → statement M
 fit-spec =
