@@ -4,7 +4,7 @@ use native.Mathlib.Omega.{arith}
 use mathlib.Core.Path.{_≡_, refl, sym, ap, _∙_}
 use mathlib.Core.Bool.{true}
 use mathlib.Core.List.{List, _++_, zipWith}
-use lib.ListN.{length, take, drop, replicate, length-drop}
+use lib.ListN.{length, take, drop, replicate, length-append, length-drop}
 use lib.Seq.{take-all, length-take-le}
 use Rattle.float.specs.Float.{#0}
 use Rattle.column.specs.Column.{zeros}
@@ -68,6 +68,12 @@ tail-kept k need was is h o =
     let long : length is ≡ length was = o .long in
     sym (take-all (length was) (drop need is) (simp length-drop (omega arith))) ∙ o .above need (length was) (omega arith)
     ∙ take-all (length was) (drop need was) (simp length-drop (omega arith))
+
+-- the first `need` numbers of w₂, lent, have come back as zs
+pub refilled : (zs w₂ w₀ : List Float) (need : ℕ) → need ≤ length w₂ → length zs ≡ length (take need w₂) → length w₂ ≡ length w₀ → length (zs ++ drop need w₂) ≡ length w₀
+refilled zs w₂ w₀ need h k e =
+    let n : length zs ≡ need = k ∙ length-take-le need w₂ h in
+    length-append zs (drop need w₂) ∙ simp length-drop (omega arith)
 
 -- ---- a call by the answer of its questions
 

@@ -5,7 +5,7 @@ use native.Mathlib.Omega.{arith}
 use lib.ListN.{length, length-append, length-drop, length-replicate}
 use lib.Seq.{length-take-le}
 use Rattle.validate.specs.Call.{lent, buffers}
-use Rattle.single_step.proofs.Outcome.{fits-ready, placed-step, whole}
+use Rattle.single_step.proofs.Outcome.{fits-ready, placed-step, refilled, whole}
 use borrow.Author.Needs.{needs}
 use Rattle.single_step.proofs.fit.Statement.{statement}
 use Rattle.single_step.proofs.fit.Tie as tie
@@ -67,7 +67,13 @@ same-length-4 : tie.Need-same-length-4
 same-length-4 c = search needs
 
 same-length-5 : tie.Need-same-length-5
-same-length-5 c = omega arith
+same-length-5 c =
+    let k = c .before .before .before .before .before .before .before .before .before .before .before .before .before .before .before .before .before .before .before .before .before .before .before .before .before .before .before .before .before .before .before .before .before .before .before in
+    let s = c .before .before .before .before .before .before .before .before .before .before .before .before .before .before .before .before .before .before .before .before .before .before .before .before .before .before .before .before .before .before .before .before .before .before .before .before .before .before .before .before .before .before .before .before .before .before .before .before in
+    let sky = c .before .before .before .before .before .before .on-the-sky in
+    let t = c .before .before .before .before .before .before .before .before .before .before .before .before .before .before .before .before .before .before .before .before .before .before .before .before .before .before .before .before .before .before .before .before .single-step-fit in
+    let long : length (sky .last .1 .1 .1 .1 .1 .1 .1 .1 .1 .1 .0) ≡ length (s .args .scratch .now) = sky .ensures .1 .long ∙ t .ensures .only .long in
+    refilled (c .before .before .fill .last .0) (sky .last .1 .1 .1 .1 .1 .1 .1 .1 .1 .1 .0) (s .args .scratch .now) (k .scratch-needed .result) (omega (arith, s .pre .scratch-room, k .scratch-needed .ensures, long)) (c .before .before .fill .kept .0) long
 
 returns : tie.Need-returns
 returns c =
