@@ -1,59 +1,54 @@
+-- `single_step::fit_model` meets its contract. Assumes nothing.
+use mathlib.Core.Path.{ap, _∙_}
+use Rattle.validate.specs.Call.{lent, buffers, sizesOf}
+use Rattle.validate.specs.Questions.{asked}
+use Rattle.single_step.proofs.Passed.{ready}
+use Rattle.single_step.proofs.Outcome.{refused, accepted}
 use borrow.Author.Needs.{needs}
 use Rattle.single_step.proofs.fit_model.Statement.{statement}
 use Rattle.single_step.proofs.fit_model.Tie as tie
-use Rattle.single_step.proofs.fit_model.Reads as reads
-use Rattle.single_step.proofs.fit_model.Lts as lts
-use Rattle.single_step.proofs.fit.Reads as fit-reads
-use Rattle.validate.proofs.no_options.Reads as no-options-reads
-use Rattle.validate.proofs.questions.Reads as questions-reads
 
--- src/lib.rt:424:9
 no-options-requires : tie.Need-no-options-requires
 no-options-requires c κs = search needs
 
--- src/lib.rt:413:9
 questions-requires : tie.Need-questions-requires
 questions-requires c κs = search needs
 
--- src/lib.rt:432:19
 enum-known-asked : tie.Need-enum-known-asked
 enum-known-asked c = search needs
 
--- src/lib.rt:433:21
 enum-known-asked-2 : tie.Need-enum-known-asked-2
 enum-known-asked-2 c = search needs
 
--- src/lib.rt:433:41
 fit-requires : tie.Need-fit-requires
-fit-requires c κs = ?
+fit-requires c κs =
+    let a = c .before .before .before .before .before .before .before .before .before .before .before .before .before .before .before .before .before .before .before .before .before .before .args in
+    ready (lent (a .names .now) (a .fixed .now) (a .coefficients .now) (a .dh .now) (a .dd .now) (a .pier .now) (a .sheets .now) (a .sin-lat) (a .cos-lat) (a .fit-tol)) (sizesOf (buffers (a .out .now) (a .change .now) (a .sigma .now) (a .diagnostics .now) (a .scratch .now))) _ _ (c .before .before .before .before .before .before .asked2 .given .1) (c .before .before .before .before .before .before .before .before .questions .ensures ∙ ap (λ o. asked (lent (a .names .now) (a .fixed .now) (a .coefficients .now) (a .dh .now) (a .dd .now) (a .pier .now) (a .sheets .now) (a .sin-lat) (a .cos-lat) (a .fit-tol)) o (sizesOf (buffers (a .out .now) (a .change .now) (a .sigma .now) (a .diagnostics .now) (a .scratch .now)))) (c .before .before .before .before .before .before .before .before .before .no-options .ensures))
 
--- src/lib.rt:393:1
 returns : tie.Need-returns
-returns c = ?
+returns c =
+    let a = c .before .before .before .before .before .before .before .before .before .before .before .before .before .before .before .before .before .args in
+    refused (lent (a .names .now) (a .fixed .now) (a .coefficients .now) (a .dh .now) (a .dd .now) (a .pier .now) (a .sheets .now) (a .sin-lat) (a .cos-lat) (a .fit-tol)) (buffers (a .out .now) (a .change .now) (a .sigma .now) (a .diagnostics .now) (a .scratch .now)) _ _ (c .before .asked .given .1) (c .before .before .before .questions .ensures ∙ ap (λ o. asked (lent (a .names .now) (a .fixed .now) (a .coefficients .now) (a .dh .now) (a .dd .now) (a .pier .now) (a .sheets .now) (a .sin-lat) (a .cos-lat) (a .fit-tol)) o (sizesOf (buffers (a .out .now) (a .change .now) (a .sigma .now) (a .diagnostics .now) (a .scratch .now)))) (c .before .before .before .before .no-options .ensures))
 
--- src/lib.rt:393:1
 same-length : tie.Need-same-length
 same-length c = search needs
 
--- src/lib.rt:393:1
 same-length-2 : tie.Need-same-length-2
 same-length-2 c = search needs
 
--- src/lib.rt:393:1
 same-length-3 : tie.Need-same-length-3
 same-length-3 c = search needs
 
--- src/lib.rt:393:1
 same-length-4 : tie.Need-same-length-4
 same-length-4 c = search needs
 
--- src/lib.rt:393:1
 same-length-5 : tie.Need-same-length-5
 same-length-5 c = search needs
 
--- src/lib.rt:393:1
 returns-2 : tie.Need-returns-2
-returns-2 c = ?
+returns-2 c =
+    let a = c .before .before .before .before .before .before .before .before .before .before .before .before .before .before .before .before .before .before .before .before .before .before .before .before .before .before .before .before .before .before .before .before .before .args in
+    accepted (lent (a .names .now) (a .fixed .now) (a .coefficients .now) (a .dh .now) (a .dd .now) (a .pier .now) (a .sheets .now) (a .sin-lat) (a .cos-lat) (a .fit-tol)) (buffers (a .out .now) (a .change .now) (a .sigma .now) (a .diagnostics .now) (a .scratch .now)) _ _ _ (c .before .before .before .before .before .before .before .before .before .before .before .before .before .before .before .before .before .asked2 .given .1) (c .before .before .before .before .before .before .before .before .before .before .before .before .before .before .before .before .before .before .before .questions .ensures ∙ ap (λ o. asked (lent (a .names .now) (a .fixed .now) (a .coefficients .now) (a .dh .now) (a .dd .now) (a .pier .now) (a .sheets .now) (a .sin-lat) (a .cos-lat) (a .fit-tol)) o (sizesOf (buffers (a .out .now) (a .change .now) (a .sigma .now) (a .diagnostics .now) (a .scratch .now)))) (c .before .before .before .before .before .before .before .before .before .before .before .before .before .before .before .before .before .before .before .before .no-options .ensures)) (c .before .before .before .before .before .before .before .before .before .before .fit .ensures)
 
 pub fit-model-spec : {M : Type 1} → statement M
 fit-model-spec =
