@@ -81,16 +81,16 @@ pub stepped : (l : Lent) (w ys w₁ w₂ w₃ : List Float) (free : ℕ) (r : So
     → length ys ≡ length (take (4 * length (l .dh) + 2 * length (l .dh) - 4 * length (l .dh)) (drop (4 * length (l .dh)) w))
     → ys ≡ skyDifferencesTo (l .dh) (l .dd) (l .sheets)
     → (part w₁ (4 * length (l .dh)) (2 * length (l .pier))
-      ≡ subtractAll (length (l .coefficients)) (at (l .coefficients)) (skyTo-at l) (part (back w ys (4 * length (l .dh)) (2 * length (l .dh))) (4 * length (l .dh)) (2 * length (l .pier))))
-      × Only 0 (4 * length (l .dh) + 2 * length (l .pier)) (back w ys (4 * length (l .dh)) (2 * length (l .dh))) w₁
+    ≡ subtractAll (length (l .coefficients)) (at (l .coefficients)) (skyTo-at l) (part (back w ys (4 * length (l .dh)) (2 * length (l .dh))) (4 * length (l .dh)) (2 * length (l .pier))))
+    × Only 0 (4 * length (l .dh) + 2 * length (l .pier)) (back w ys (4 * length (l .dh)) (2 * length (l .dh))) w₁
     → (part w₂ (8 * length (l .dh)) (freeCount (l .fixed) * heightOf l) ≡ laid (heightOf l) (ofFree (l .fixed) (skyTo-at l) (length (l .fixed))))
-      × Only (8 * length (l .dh)) (length (l .fixed) * heightOf l) w₁ w₂
+    × Only (8 * length (l .dh)) (length (l .fixed) * heightOf l) w₁ w₂
     → (record { outcome = r; w = part w₃ (8 * length (l .dh)) (free * heightOf l) }
-      ≡ solved (heightOf l) (2 * length (l .dh)) free (part w₂ (8 * length (l .dh)) (free * heightOf l)) (part w₂ (4 * length (l .dh)) (2 * length (l .dh))) (l .fitTol))
-      × Only (8 * length (l .dh)) (free * heightOf l) w₂ w₃
+    ≡ solved (heightOf l) (2 * length (l .dh)) free (part w₂ (8 * length (l .dh)) (free * heightOf l)) (part w₂ (4 * length (l .dh)) (2 * length (l .dh))) (l .fitTol))
+    × Only (8 * length (l .dh)) (free * heightOf l) w₂ w₃
     → (record { outcome = r; w = part w₃ (8 * length (l .dh)) (freeCount (l .fixed) * heightOf l) } ≡ step l)
-      × (part w₃ (4 * length (l .dh)) (2 * length (l .dh)) ≡ toFit l)
-      × Only 0 (8 * length (l .dh) + length (l .coefficients) * heightOf l) w w₃
+    × (part w₃ (4 * length (l .dh)) (2 * length (l .dh)) ≡ toFit l)
+    × Only 0 (8 * length (l .dh) + length (l .coefficients) * heightOf l) w w₃
 unfolding step toFit
 stepped l w ys w₁ w₂ w₃ free r f q kept e p₁ p₂ p₃ =
     let n = length (l .dh) in
@@ -137,20 +137,21 @@ residual-left f w ys d w₁ w₂ p x y n low room kept e q g =
     let b = back w ys y n in
     let first = back-only w ys y n room kept in
     let long : length b ≡ length w = first .long in
-    let t = taken-from f b w₁ w₂ p x y n low (rw long room) q g in
-    (t .0 ∙ ap (λ (v : List Float). zipWith f v p) (back-part w ys y n room kept ∙ e),
-    only-then 0 (y + n) w b w₂ (only-wider y n 0 (y + n) w b (omega arith) (omega arith) first) (only-wider 0 (x + n) 0 (y + n) b w₂ (omega arith) (omega arith) (t .1)))
+    let t = taken-from f b w₁ w₂ p x y n low (rw long room) q g in (
+      t .0 ∙ ap (λ (v : List Float). zipWith f v p) (back-part w ys y n room kept ∙ e),
+      only-then 0 (y + n) w b w₂ (only-wider y n 0 (y + n) w b (omega arith) (omega arith) first) (only-wider 0 (x + n) 0 (y + n) b w₂ (omega arith) (omega arith) (t .1)),
+    )
 
 -- ---- the step and its residuals
 
 pub made-step : (l : Lent) (w w₁ w₂ : List Float) (o : SolveOutcome) (ch new : List Float) → Fits l w
     → (record { outcome = o; w = part w₁ (8 * length (l .dh)) (freeCount (l .fixed) * heightOf l) } ≡ step l) × (part w₁ (4 * length (l .dh)) (2 * length (l .dh)) ≡ toFit l)
-      × Only 0 (8 * length (l .dh) + length (l .coefficients) * heightOf l) w w₁
+    × Only 0 (8 * length (l .dh) + length (l .coefficients) * heightOf l) w w₁
     → ch ≡ filled (length (l .fixed)) (changeAt (l .fixed) (o .x)) zeros
     → new ≡ filled (length (l .coefficients)) (λ j. at (l .coefficients) j ⊕ at ch j) zeros
     → (part w₂ (2 * length (l .pier)) (2 * length (l .pier))
-      ≡ zipWith (sub binary64) (part w₁ (4 * length (l .pier)) (2 * length (l .pier))) (freeProduct (2 * length (l .pier)) (length (l .fixed)) (l .fixed) (o .x) (skyTo-at l)))
-      × Only 0 (2 * length (l .pier) + 2 * length (l .pier)) w₁ w₂
+    ≡ zipWith (sub binary64) (part w₁ (4 * length (l .pier)) (2 * length (l .pier))) (freeProduct (2 * length (l .pier)) (length (l .fixed)) (l .fixed) (o .x) (skyTo-at l)))
+    × Only 0 (2 * length (l .pier) + 2 * length (l .pier)) w₁ w₂
     → Stepped l w w₂ ch new o
 unfolding change newCoefficients freeResiduals
 made-step l w w₁ w₂ o ch new f p ec en q =
@@ -168,8 +169,8 @@ made-step l w w₁ w₂ o ch new f p ec en q =
       solution = ap (λ (u : List Float). record { outcome = o; w = u }) kept ∙ p .0;
       only = only-then 0 (8 * n + m * heightOf l) w w₁ w₂ (p .2) (only-wider 0 (2 * length (l .pier) + 2 * length (l .pier)) 0 (8 * n + m * heightOf l) w₁ w₂ (omega arith) (omega (arith, same)) (q .1));
       left = r ∙ ap (λ (b : List Float). zipWith (sub binary64) b (freeProduct (2 * n) (length (l .fixed)) (l .fixed) (o .x) (skyTo-at l))) (p .1)
-      ∙ ap (λ (s : Solved). zipWith (sub binary64) (toFit l) (freeProduct (2 * n) (length (l .fixed)) (l .fixed) (s .outcome .x) (skyTo-at l))) (p .0)
-      ∙ ap (λ a. zipWith (sub binary64) (toFit l) (freeProduct (2 * n) (length (l .fixed)) (l .fixed) (step l .outcome .x) a)) (sky-same l same);
+          ∙ ap (λ (s : Solved). zipWith (sub binary64) (toFit l) (freeProduct (2 * n) (length (l .fixed)) (l .fixed) (s .outcome .x) (skyTo-at l))) (p .0)
+          ∙ ap (λ a. zipWith (sub binary64) (toFit l) (freeProduct (2 * n) (length (l .fixed)) (l .fixed) (step l .outcome .x) a)) (sky-same l same);
     }
 
 -- what lies at 2·n in v, on the sky

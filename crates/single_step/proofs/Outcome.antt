@@ -24,7 +24,7 @@ use Rattle.design.specs.Design.{sheetAt, cosDec, freeCount, ofFree, laid, diffe
 use Rattle.design.specs.Filled.{differencesTo}
 use Rattle.stats.specs.Stats.{variance, sigmaAt}
 use Rattle.single_step.specs.declared.Sky.{Sky}
-use Rattle.single_step.specs.SingleStep.{starsOf, columnOf, skyOf, rowsOf, change, newCoefficients, freeResiduals, residuals, sigma, diagnosticFrom, diagnosticOf, skyFrom, result, threes, heightOf, toFit, step, Outcome, outcome, fitted, decided, fitOutcome, Fits, Stepped}
+use Rattle.single_step.specs.SingleStep.{starsOf, columnOf, skyOf, rowsOf, change, newCoefficients, freeResiduals, residuals, sigma, diagnosticFrom, diagnosticOf, skyFrom, result, threes, heightOf, step, Outcome, outcome, fitted, decided, fitOutcome, Fits, Stepped}
 use Rattle.single_step.proofs.Laws.{columnTo-at, column-same, differences-same, solve-ready}
 
 pub fits-ready : (l : Lent) (b : Buffers) → Ready l (sizesOf b) → Fits l (b .scratch)
@@ -48,8 +48,8 @@ fits-ready l b r =
 -- the solved columns lie in w after the step
 pub placed-step : (l : Lent) (w₀ w ch new : List Float) (o : SolveOutcome) → Fits l w₀ → Stepped l w₀ w ch new o
     → (8 * length (l .dh) + freeCount (l .fixed) * heightOf l ≤ length w)
-      × Placed (heightOf l) (part w (8 * length (l .dh)) (freeCount (l .fixed) * heightOf l)) (take (freeCount (l .fixed)) (o .order))
-      × (length (take (freeCount (l .fixed)) (o .order)) ≡ freeCount (l .fixed))
+    × Placed (heightOf l) (part w (8 * length (l .dh)) (freeCount (l .fixed) * heightOf l)) (take (freeCount (l .fixed)) (o .order))
+    × (length (take (freeCount (l .fixed)) (o .order)) ≡ freeCount (l .fixed))
 unfolding step solved answered
 placed-step l w₀ w ch new o f st =
     let n = length (l .dh) in
@@ -93,19 +93,19 @@ pub whole : (l : Lent) (b : Buffers) (w w₂ zs new moved out′ change′ sigma
     → out′ ≡ filled (length (l .coefficients)) (at new) (b .coefficients)
     → change′ ≡ filled (length (l .coefficients)) (at moved) (b .change)
     → (sigma′ ≡ filled (length (l .coefficients)) (at (filled (length (l .coefficients)) (sigmaAt (l .fixed) (variance (part w (2 * length (l .dh)) (2 * length (l .dh))) (length (l .dh)) (o .rank)) (o .«cov_diag»)) zeros)) (b .sigma))
-      × (diag′ ≡ threes (length (l .dh)) (diagnosticFrom (length (l .dh)) (o .rank) (part w (2 * length (l .dh)) (2 * length (l .dh))) (leverageOf (heightOf l) (part w (8 * length (l .dh)) (freeCount (l .fixed) * heightOf l)) (take (freeCount (l .fixed)) (o .order)) (o .«inv_s»))) ++ drop (3 * length (l .dh)) (b .diagnostics))
+    × (diag′ ≡ threes (length (l .dh)) (diagnosticFrom (length (l .dh)) (o .rank) (part w (2 * length (l .dh)) (2 * length (l .dh))) (leverageOf (heightOf l) (part w (8 * length (l .dh)) (freeCount (l .fixed) * heightOf l)) (take (freeCount (l .fixed)) (o .order)) (o .«inv_s»))) ++ drop (3 * length (l .dh)) (b .diagnostics))
     → (sky ≡ skyFrom (length (l .pier)) (λ i. cosDec (sheetAt (l .sheets) i)) free (zipWith (sub binary64) (differencesTo (l .dh) (l .dd)) (product (2 * length (l .pier)) (length (l .coefficients)) (at new) (columnTo-at l))))
-      × Only 0 (4 * length (l .pier) + 2 * length (l .pier)) w w₂
+    × Only 0 (4 * length (l .pier) + 2 * length (l .pier)) w w₂
     → need ≤ length w₂ → zs ≡ replicate (length (take need w₂)) #0
     → outcome
-      (Done (record {
-        «sky_rms» = sky .rms;
-        «popn_sd» = sky .«popn_sd»;
-        «rank_info» = record { «n_free» = free; rank = o .rank; «sigma_max» = o .«sigma_max»; «sigma_min» = o .«sigma_min»; tol = l .fitTol };
-        «iter_report» = record { iterations = 1; converged = true; «final_lambda» = #0; «final_step_norm» = #0 };
-      }))
-      (buffers out′ change′ sigma′ diag′ (zs ++ drop need w₂))
-      ≡ fitted l b
+    (Done (record {
+      «sky_rms» = sky .rms;
+      «popn_sd» = sky .«popn_sd»;
+      «rank_info» = record { «n_free» = free; rank = o .rank; «sigma_max» = o .«sigma_max»; «sigma_min» = o .«sigma_min»; tol = l .fitTol };
+      «iter_report» = record { iterations = 1; converged = true; «final_lambda» = #0; «final_step_norm» = #0 };
+    }))
+    (buffers out′ change′ sigma′ diag′ (zs ++ drop need w₂))
+    ≡ fitted l b
 unfolding fitted result residuals sigma diagnosticOf scratchNeeded
 whole l b w w₂ zs new moved out′ change′ sigma′ diag′ o free need sky f ef en st eo ec es ek room ez =
     let n = length (l .dh) in
@@ -132,9 +132,9 @@ whole l b w w₂ zs new moved out′ change′ sigma′ diag′ o free need sky 
     ap (λ (z : List Float). z ++ drop need w₂) (ez ∙ ap (λ (k : ℕ). replicate k #0) (length-take-le need w₂ room)) ∙ ap (λ (t : List Float). replicate need #0 ++ t) (tail-kept (8 * n + m * h) need (b .scratch) w₂ all whole-only) in
     rw (e₁, e₂, e₃, e₄, e₅, en, k₂, ef)
     (ap (λ (s : Solved). outcome
-      (Done (record {
-        «sky_rms» = skyFrom n cosDecs fc (zipWith (sub binary64) (differences (starsOf l)) (product (2 * n) m (at (newCoefficients l)) (columnOf l))) .rms;
-        «popn_sd» = skyFrom n cosDecs fc (zipWith (sub binary64) (differences (starsOf l)) (product (2 * n) m (at (newCoefficients l)) (columnOf l))) .«popn_sd»;
-        «rank_info» = record { «n_free» = fc; rank = s .outcome .rank; «sigma_max» = s .outcome .«sigma_max»; «sigma_min» = s .outcome .«sigma_min»; tol = l .fitTol };
-        «iter_report» = record { iterations = 1; converged = true; «final_lambda» = #0; «final_step_norm» = #0 };
-      })) (fitted l b .left)) (st .solution))
+    (Done (record {
+      «sky_rms» = skyFrom n cosDecs fc (zipWith (sub binary64) (differences (starsOf l)) (product (2 * n) m (at (newCoefficients l)) (columnOf l))) .rms;
+      «popn_sd» = skyFrom n cosDecs fc (zipWith (sub binary64) (differences (starsOf l)) (product (2 * n) m (at (newCoefficients l)) (columnOf l))) .«popn_sd»;
+      «rank_info» = record { «n_free» = fc; rank = s .outcome .rank; «sigma_max» = s .outcome .«sigma_max»; «sigma_min» = s .outcome .«sigma_min»; tol = l .fitTol };
+      «iter_report» = record { iterations = 1; converged = true; «final_lambda» = #0; «final_step_norm» = #0 };
+    })) (fitted l b .left)) (st .solution))

@@ -65,16 +65,7 @@ fn solve(
     let c = 8 * n;
     let free = design::free_count(fixed);
     design::build_sky_residuals(dh, dd, sheets, &mut w[b..b + rows]);
-    products::subtract_all_contributions(
-        names,
-        pier,
-        sheets,
-        sin_lat,
-        cos_lat,
-        coefficients,
-        w,
-        b,
-    );
+    products::subtract_all_contributions(names, pier, sheets, sin_lat, cos_lat, coefficients, w, b);
     products::free_columns(names, fixed, pier, sheets, sin_lat, cos_lat, w, c, h);
     linalg::solve_and_covariance(w, c, h, rows, free, b, rows, fit_tol)
 }
@@ -153,7 +144,17 @@ fn residuals(
     let rows = 2 * n;
     let b = 4 * n;
     design::build_residuals(dh, dd, &mut w[b..b + rows]);
-    products::product(names, pier, sheets, sin_lat, cos_lat, coefficients, m, w, rows);
+    products::product(
+        names,
+        pier,
+        sheets,
+        sin_lat,
+        cos_lat,
+        coefficients,
+        m,
+        w,
+        rows,
+    );
     design::subtract_from(w, rows, b, rows);
 }
 

@@ -57,10 +57,13 @@ free-columns-requires c κs =
     let a = s .args in
     let n = length (a .dh .now) in
     let first = back-only (a .w .now) (built .build-sky-residuals .last .1 .1 .1 .0) (4 * n) (2 * n) (omega (arith, s .pre .room)) (built .build-sky-residuals .kept .1 .1 .1 .0) in
-    let long = subtract .subtract-all-contributions .ensures .1 .long ∙ first .long in
-    (record { few = omega (arith, s .pre .names-count, s .pre .terms); stars = omega (arith, s .pre .pier-count, s .pre .stars); sheets-count = omega (arith, s .pre .pier-count, s .pre .sheets-count) },
-    omega (arith, s .pre .terms, s .pre .fixed-count), omega (arith, s .pre .names-count, s .pre .fixed-count), omega (arith, s .pre .pier-count),
-    columns-room (lent (a .names .now) (a .fixed .now) (a .coefficients .now) (a .dh .now) (a .dd .now) (a .pier .now) (a .sheets .now) (a .sin-lat) (a .cos-lat) (a .fit-tol)) (a .w .now) (subtract .subtract-all-contributions .last .1 .1 .1 .1 .1 .1 .0) (s .pre) long)
+    let long = subtract .subtract-all-contributions .ensures .1 .long ∙ first .long in (
+      record { few = omega (arith, s .pre .names-count, s .pre .terms); stars = omega (arith, s .pre .pier-count, s .pre .stars); sheets-count = omega (arith, s .pre .pier-count, s .pre .sheets-count) },
+      omega (arith, s .pre .terms, s .pre .fixed-count),
+      omega (arith, s .pre .names-count, s .pre .fixed-count),
+      omega (arith, s .pre .pier-count),
+      columns-room (lent (a .names .now) (a .fixed .now) (a .coefficients .now) (a .dh .now) (a .dd .now) (a .pier .now) (a .sheets .now) (a .sin-lat) (a .cos-lat) (a .fit-tol)) (a .w .now) (subtract .subtract-all-contributions .last .1 .1 .1 .1 .1 .1 .0) (s .pre) long,
+    )
 
 solve-and-covariance-requires : tie.Need-solve-and-covariance-requires
 solve-and-covariance-requires c κs =

@@ -1,8 +1,8 @@
 -- `single_step::statistics` meets its contract. Assumes nothing.
-use mathlib.Core.Path.{_≡_, sym, _∙_, ap}
-use Prim.Native.Nat.{ℕ, _+_, _*_, _≤_}
+use mathlib.Core.Path.{sym}
+use Prim.Native.Nat.{_+_, _*_, _≤_}
 use native.Mathlib.Omega.{arith}
-use lib.ListN.{length, take}
+use lib.ListN.{length}
 use Rattle.sequence.proofs.Only.{length-cut}
 use Rattle.design.specs.Design.{freeCount}
 use Rattle.single_step.proofs.Laws.{order-long, placed-lent, sigma-given, diagnostics-given}
@@ -129,9 +129,10 @@ returns c =
     let var = sigma .before in
     let f = c .before .before .before .before .before .before .before .before .before .before .before .before .before .before .before .before .before .before .before in
     let s = c .before .before .before .before .before .before .before .before .before .before .before .before .before .before .before .before .before .before .before .before .before .before .before .before in
-    let a = s .args in
-    (sigma-given (a .fixed .now) (a .n) (a .m) (2 * a .n + 2 * a .m) (a .solved .rank) (f .free-count .result) (freeCount (a .fixed .now)) (a .w .now) (f .free-count .ensures) (a .solved .«cov_diag») _ _ _ _ (var .variance .ensures) (sigma .compute-sigma .ensures) (copied .copy .ensures),
-    diagnostics-given (a .fixed .now) (a .n) (a .m) (2 * a .n + 2 * a .m) (a .solved .rank) (f .free-count .result) (freeCount (a .fixed .now)) (a .w .now) (f .free-count .ensures) (a .solved .order) (a .solved .«inv_s») _ _ (d .compute-diagnostics .ensures))
+    let a = s .args in (
+      sigma-given (a .fixed .now) (a .n) (a .m) (2 * a .n + 2 * a .m) (a .solved .rank) (f .free-count .result) (freeCount (a .fixed .now)) (a .w .now) (f .free-count .ensures) (a .solved .«cov_diag») _ _ _ _ (var .variance .ensures) (sigma .compute-sigma .ensures) (copied .copy .ensures),
+      diagnostics-given (a .fixed .now) (a .n) (a .m) (2 * a .n + 2 * a .m) (a .solved .rank) (f .free-count .result) (freeCount (a .fixed .now)) (a .w .now) (f .free-count .ensures) (a .solved .order) (a .solved .«inv_s») _ _ (d .compute-diagnostics .ensures),
+    )
 
 pub statistics-spec : {M : Type 1} → statement M
 statistics-spec =
