@@ -1,0 +1,104 @@
+-- What the questions' answer says where all are passed: `Ready`. Assumes nothing.
+use Prim.Native.Nat.{ℕ, _*_, _≤_}
+use mathlib.Core.Path.{_≡_, refl, sym, _∙_}
+use mathlib.Core.Bool.{Bool, true, false, _&&_, cond}
+use mathlib.Core.List.{List, [], _∷_}
+use borrow.Author.Tests.{leb-true, ltb-true}
+use lib.Dec.{leb, ltb, eqb}
+use lib.ListN.{length}
+use Rattle.sequence.specs.Sequence.{every}
+use Rattle.terms.specs.Questions.{Question, ask, firstNo}
+use Rattle.design.specs.Design.{freeCount}
+use Rattle.validate.specs.Call.{Lent, Sizes}
+use Rattle.validate.specs.Questions.{limits, counts, room, scratchNeeded, finiteInput, finiteOptions, codesKnown, namesNo, asked, noOptions, Ready}
+use Rattle.validate.specs.declared.Asked.{Asked}
+use Rattle.validate.specs.declared.Asked.the-variants.{Pass, No}
+use Rattle.validate.proofs.Laws.{and-left, and-right, limits-facts, counts-facts}
+
+one : (b : Bool) (r : Asked) (k f : ℕ) (t : Bool) → Pass f ≡ cond b r (No k) → (Pass f ≡ r → t ≡ true) → (b && t) ≡ true
+one true r k f t h g = g h
+one false r k f t h g = cc
+
+all : (f x : ℕ) (qs : List Question) → Pass f ≡ firstNo No (Pass x) qs → every (λ q. q .yes) qs ≡ true
+all f x [] e = refl
+all f x (q ∷ qs) e = one (q .yes) (firstNo No (Pass x) qs) (q .number) f (every (λ p. p .yes) qs) e (all f x qs)
+
+-- of ten questions, the first three and the ninth
+some : (a b c d e f g h i rest : Bool) → (a && (b && (c && (d && (e && (f && (g && (h && (i && rest))))))))) ≡ true → (a ≡ true) × (b ≡ true) × (c ≡ true) × (i ≡ true)
+some a b c d e f g h i rest t =
+    let r8 = i && rest in
+    let r7 = h && r8 in
+    let r6 = g && r7 in
+    let r5 = f && r6 in
+    let r4 = e && r5 in
+    let r3 = d && r4 in
+    let r2 = c && r3 in
+    let r1 = b && r2 in
+    let t1 = and-right a r1 t in
+    let t2 = and-right b r2 t1 in
+    let t3 = and-right c r3 t2 in
+    let t4 = and-right d r4 t3 in
+    let t5 = and-right e r5 t4 in
+    let t6 = and-right f r6 t5 in
+    let t7 = and-right g r7 t6 in
+    let t8 = and-right h r8 t7 in
+    (and-left a r1 t, and-left b r2 t1, and-left c r3 t2, and-left i rest t8)
+
+record Roomy (s : Sizes) (m n : ℕ) : Type 0 where
+  coefficients-room : m ≤ s .coefficients
+  change-room : m ≤ s .change
+  sigma-room : m ≤ s .sigma
+  diagnostics-room : 3 * n ≤ s .diagnostics
+  scratch-room : scratchNeeded m n ≤ s .scratch
+
+room-facts : (s : Sizes) (m n : ℕ) → room s m n ≡ true → Roomy s m n
+unfolding room
+room-facts s m n e =
+    let a = leb m (s .coefficients) in
+    let b = leb m (s .change) in
+    let c = leb m (s .sigma) in
+    let d = leb (3 * n) (s .diagnostics) in
+    let f = leb (scratchNeeded m n) (s .scratch) in
+    let e4 : (a && b && c && d) ≡ true = and-left (a && b && c && d) f e in
+    let e3 : (a && b && c) ≡ true = and-left (a && b && c) d e4 in
+    let e2 : (a && b) ≡ true = and-left (a && b) c e3 in
+    record {
+      coefficients-room = leb-true m (s .coefficients) (and-left a b e2);
+      change-room = leb-true m (s .change) (and-right a b e2);
+      sigma-room = leb-true m (s .sigma) (and-right (a && b) c e3);
+      diagnostics-room = leb-true (3 * n) (s .diagnostics) (and-right (a && b && c) d e4);
+      scratch-room = leb-true (scratchNeeded m n) (s .scratch) (and-right (a && b && c && d) f e);
+    }
+
+pub ready : (l : Lent) (s : Sizes) (free : ℕ) (r : Asked) → r ≡ Pass free → r ≡ asked l noOptions s → Ready l s
+unfolding asked
+ready l s free r e q =
+    let m = length (l .coefficients) in
+    let n = length (l .dh) in
+    let fc = freeCount (l .fixed) in
+    let no = namesNo m (l .names) in
+    let q1 = limits m n in
+    let q2 = counts (length (l .names)) (length (l .fixed)) (length (l .dd)) (length (l .pier)) (length (l .sheets)) m n in
+    let q3 = room s m n in
+    let q4 = finiteInput l && finiteOptions noOptions in
+    let q5 = codesKnown (l .pier) (l .fixed) in
+    let t = all free fc (ask q1 1 ∷ ask q2 2 ∷ ask q3 3 ∷ ask q4 4 ∷ ask q5 5 ∷ ask (leb 0 1000) 6 ∷ ask (eqb no 0) no ∷ ask (ltb 0 m) 11 ∷ ask (ltb 0 fc) 12 ∷ ask (leb fc n) 13 ∷ []) (sym e ∙ q) in
+    let y = some q1 q2 q3 q4 q5 (leb 0 1000) (eqb no 0) (ltb 0 m) (ltb 0 fc) (leb fc n && true) t in
+    let f = limits-facts m n (y .0) in
+    let c = counts-facts (length (l .names)) (length (l .fixed)) (length (l .dd)) (length (l .pier)) (length (l .sheets)) m n (y .1) in
+    let h = room-facts s m n (y .2) in
+    record {
+      terms = f .0;
+      stars = f .1;
+      names-count = c .names-count;
+      fixed-count = c .fixed-count;
+      dd-count = c .dd-count;
+      pier-count = c .pier-count;
+      sheets-count = c .sheets-count;
+      coefficients-room = h .coefficients-room;
+      change-room = h .change-room;
+      sigma-room = h .sigma-room;
+      diagnostics-room = h .diagnostics-room;
+      scratch-room = h .scratch-room;
+      some-free = ltb-true 0 fc (y .3);
+    }
