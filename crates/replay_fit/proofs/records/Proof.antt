@@ -1,0 +1,55 @@
+-- `records` is safe and ends: the measure is the number of turns that are left. Assumes nothing.
+use mathlib.Core.Path.{_≡_, refl}
+use lib.ListN.{length}
+use native.Mathlib.Omega.{arith}
+use Rattle.replay_fit.proofs.records.Statement.{statement}
+use Rattle.replay_fit.proofs.records.Tie as tie
+
+abbrev Inv-loop : tie.InvT-loop
+Inv-loop pool bytes₀ numbers₀ t₀ more₀ turns₀ bytes numbers t more turns = (length bytes ≡ length bytes₀) × (length numbers ≡ length numbers₀)
+
+abbrev μ-loop : tie.MeasureT-loop
+μ-loop pool bytes₀ numbers₀ t₀ more₀ turns₀ bytes numbers t more turns = turns
+
+loop-holds : tie.Need-loop-holds Inv-loop μ-loop
+loop-holds c = (refl, refl)
+
+record-requires : tie.Need-record-requires Inv-loop μ-loop
+record-requires c κs = omega arith
+
+sub-turns : tie.Need-sub-turns Inv-loop μ-loop
+sub-turns c = omega arith
+
+loop-less : tie.Need-loop-less Inv-loop μ-loop
+loop-less c = omega arith
+
+loop-again : tie.Need-loop-again Inv-loop μ-loop
+loop-again c = omega arith
+
+report-requires : tie.Need-report-requires Inv-loop μ-loop
+report-requires c κs = tt
+
+same-length : tie.Need-same-length Inv-loop μ-loop
+same-length c = omega arith
+
+same-length-2 : tie.Need-same-length-2 Inv-loop μ-loop
+same-length-2 c = omega arith
+
+returns : tie.Need-returns Inv-loop μ-loop
+returns c = tt
+
+pub records-spec : {M : Type 1} → statement M
+records-spec =
+    tie.close
+    (tie.spec
+    Inv-loop
+    μ-loop
+    loop-holds
+    record-requires
+    sub-turns
+    loop-less
+    loop-again
+    report-requires
+    same-length
+    same-length-2
+    returns)
