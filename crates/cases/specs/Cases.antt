@@ -1,12 +1,15 @@
 -- The cases of document 01, "Readings and fits", as one table, and the theorem that the definitions of the public calls give each row's answer.
--- Starred there: every row but the last two, HXSHCD2 and TX2.
-use Prim.Native.Nat.{ℕ}
+-- Starred there: every row but the last three, HXSHCD2, TX2 and the four stars.
+use Prim.Native.Nat.{ℕ, zero, suc, _+_, _*_}
 use Prim.Native.String.{String}
 use mathlib.Core.Path.{_≡_, refl}
 use mathlib.Core.List.{List, [], _∷_, _++_, map}
-use lib.ListN.{replicate}
-use lib.Ieee.{Float, binary64, ofBits, neg, add, mul, div, lt}
+use mathlib.Core.List.{zipWith}
+use lib.ListN.{length, replicate}
+use lib.Ieee.{Float, binary64, ofBits, ofInt, neg, add, sub, mul, div, lt, le, eq}
 use Rattle.float.specs.Float.{#0, #1, #2, abs, isFinite}
+use Rattle.sequence.specs.Sequence.{at, table, filled, each, sumTo, sumBut, dot}
+use Rattle.sqrt.specs.Sqrt as Root
 use Rattle.observation.specs.Observation.{pairOf}
 use Rattle.observation.specs.Sheet.{pointOf}
 use Rattle.observation.specs.declared.Pair.{Pair}
@@ -24,10 +27,26 @@ use Rattle.terms.specs.declared.Reading.{Reading}
 use Rattle.terms.specs.declared.answer.Jacobian.{Jacobian}
 use Rattle.terms.specs.declared.answer.Jacobian.the-variants.{Given}
 
--- an answer of a public call
+use Rattle.jacobi.specs.Jacobi.{zetaOf, tanOf, cosOf, turn, pair, row, sweep, sweeps}
+use Rattle.column.specs.Column.{norm, norms, scaleOf, scaledColumn, unitColumn, columns, diagonal, diagonals, extended}
+use Rattle.order.specs.Order.{best, order}
+use Rattle.linalg.specs.Linalg.{decomposed, threshold, inverse, inverses, rankTo, projected, xScaled, solution, scaledVariance, covariance, leverageOf, answered, solved}
+use Rattle.solver.specs.declared.Fit.{Fit}
+use Rattle.solver.specs.declared.Fit.the-variants.{Done, Refused}
+use Rattle.design.specs.Design as Design
+use Rattle.design.specs.Design.{stars, column, skyColumn, differences, skyDifferences, freeBefore, ofFree, subtractAll, product, freeProduct, laid}
+use Rattle.validate.specs.Call.{Lent, Buffers, lent, buffers}
+use Rattle.validate.specs.Questions.{limits, counts, scratchNeeded, room, finiteInput, finiteOptions, codesKnown, namesNo, asked}
+use Rattle.stats.specs.Stats.{sumSqSky, skyRms, popnSd, variance, sigmaAt, deviation, clamped, studentizedRow, diagnostic}
+use Rattle.single_step.specs.SingleStep.{Outcome, toFit, step, change, newCoefficients, freeResiduals, residuals, sigma, diagnosticOf, result, threes, fitted, fitOutcome}
+
+-- an answer of a public call: of a fit the coefficients and the rank, or the coefficients, the sky RMS and each star's leverage
 pub data Answer : Type 0 where
   reading : Reading → Answer
   jacobian : Jacobian → Answer
+  refusal : ℕ → Answer
+  ranked : List Float → ℕ → Answer
+  measured : List Float → Float → List Float → Answer
 
 pub record Row : Type 0 where
   pub got : Answer
@@ -64,10 +83,72 @@ east = 1
 abbrev pub slopes : String → Float → ℕ → Pair → Row
 slopes s c pier p = record { got = jacobian (jacobianOf (slot s) (sheet c) #0 #1 pier); wanted = jacobian (Given p) }
 
+-- ---- fits
+
+abbrev pub #5 : Float
+#5 = ofBits binary64 0x4014_0000_0000_0000
+
+abbrev pub #10 : Float
+#10 = ofBits binary64 0x4024_0000_0000_0000
+
+abbrev pub #15 : Float
+#15 = ofBits binary64 0x402e_0000_0000_0000
+
+abbrev pub #20 : Float
+#20 = ofBits binary64 0x4034_0000_0000_0000
+
+abbrev pub quarter : Float
+quarter = ofBits binary64 0x3fd0_0000_0000_0000
+
+abbrev pub twice : List Float → List Float
+twice l = l ++ l
+
+-- the sheet whose sines and tan are 0 and whose cosines are 1
+abbrev pub still : List Float
+still = let pair = #0 ∷ #1 ∷ [] in let eight = twice (twice (twice pair)) in twice (eight ++ pair) ++ (#0 ∷ [])
+
+abbrev pub stills : ℕ → List Float
+stills zero = []
+stills (suc n) = still ++ stills n
+
+-- ID free at 0, and East stars with that sheet, with hour-angle differences 0 and these declination differences; latitude 0, fit_tol 0
+abbrev pub run : List Float → Lent
+run dd =
+    let n = length dd in
+    lent (slot "ID") (0 ∷ []) (#0 ∷ []) (replicate n #0) dd (replicate n east) (stills n) #0 #1 #0
+
+-- buffers of just the size
+abbrev pub exact : ℕ → Buffers
+exact n = buffers (#0 ∷ []) (#0 ∷ []) (#0 ∷ []) (replicate (3 * n) #0) (replicate (scratchNeeded 1 n) #0)
+
+abbrev pub stepped : List Float → Outcome
+stepped dd = fitOutcome (run dd) (exact (length dd))
+
+abbrev pub rankedBy : Fit → List Float → Answer
+rankedBy (Done r) cs = ranked cs (r .«rank_info» .rank)
+rankedBy (Refused k) cs = refusal k
+
+abbrev pub measuredBy : Fit → List Float → List Float → Answer
+measuredBy (Done r) cs ls = measured cs (r .«sky_rms») ls
+measuredBy (Refused k) cs ls = refusal k
+
+-- the file case
+abbrev pub fileCase : Row
+fileCase = let o = stepped (neg #10 ∷ []) in record { got = rankedBy (o .answer) (o .left .coefficients); wanted = ranked (#10 ∷ []) 1 }
+
+-- the second of each star's three diagnostics
+abbrev pub leverages : ℕ → List Float → List Float
+leverages n d = table n (λ i. at d (3 * i + 1))
+
+abbrev pub fourStars : Row
+fourStars =
+    let o = stepped (neg #10 ∷ neg #20 ∷ neg #10 ∷ neg #20 ∷ []) in
+    record { got = measuredBy (o .answer) (o .left .coefficients) (leverages 4 (o .left .diagnostics)); wanted = measured (#15 ∷ []) #5 (replicate 4 quarter) }
+
 -- ---- the table
 
-abbrev pub table : List Row
-table =
+abbrev pub rows : List Row
+rows =
     reads "ih" (accepted (Equatorial IH) (ascii "IH") (arrayOf [])) ∷
     reads "tx+05" (accepted (Equatorial (TXN 5)) (ascii "TX5") (arrayOf [])) ∷
     reads "TX0" (refused 9) ∷
@@ -80,11 +161,13 @@ table =
     reads "HHSH12" (refused 10) ∷
     slopes "CH" half west (pairOf #2 #0) ∷
     slopes "IH" #1 east (pairOf (neg #1) #0) ∷
+    fileCase ∷
     reads "HXSHCD2"
     (accepted (Harmonic ResultType.X) (ascii "HXSHCD2") (arrayOf (component TrigFunc.Sin Coordinate.H 1 ∷ component TrigFunc.Cos Coordinate.D 2 ∷ []))) ∷
     slopes "TX2" #1 east (pairOf #0 #0) ∷
+    fourStars ∷
     []
 
-pub starred : map (λ (r : Row). r .got) table ≡ map (λ (r : Row). r .wanted) table
-unfolding nameOf wellFormed digitsFrom unsigned components parseHarmonic readHarmonic byKnown readTerm jacobianOf pointOf isFinite abs neg add mul div lt ofBits
+pub starred : map (λ (r : Row). r .got) rows ≡ map (λ (r : Row). r .wanted) rows
+unfolding nameOf wellFormed digitsFrom unsigned components parseHarmonic readHarmonic byKnown readTerm jacobianOf pointOf isFinite abs neg add sub mul div lt le eq ofBits ofInt Root.sqrt table filled each sumTo sumBut dot zipWith fitOutcome asked limits counts scratchNeeded room finiteInput finiteOptions codesKnown namesNo fitted result step toFit change newCoefficients freeResiduals residuals sigma diagnosticOf threes stars Design.rows column skyColumn differences skyDifferences freeBefore ofFree subtractAll product freeProduct laid sumSqSky skyRms popnSd variance sigmaAt deviation clamped studentizedRow diagnostic solved answered decomposed norms norm scaleOf scaledColumn unitColumn columns diagonal diagonals extended inverses inverse rankTo projected xScaled solution scaledVariance covariance leverageOf threshold order best sweeps sweep row pair turn zetaOf tanOf cosOf
 starred = refl
