@@ -26,7 +26,6 @@ use Rattle.terms.specs.declared.TermKind.the-variants.{Equatorial, Harmonic}
 use Rattle.terms.specs.declared.Reading.{Reading}
 use Rattle.terms.specs.declared.answer.Jacobian.{Jacobian}
 use Rattle.terms.specs.declared.answer.Jacobian.the-variants.{Given}
-
 use Rattle.jacobi.specs.Jacobi.{zetaOf, tanOf, cosOf, turn, pair, row, sweep, sweeps}
 use Rattle.column.specs.Column.{norm, norms, scaleOf, scaledColumn, unitColumn, columns, diagonal, diagonals, extended}
 use Rattle.order.specs.Order.{best, order}

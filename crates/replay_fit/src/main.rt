@@ -222,7 +222,13 @@ fn read_input(s: Sizes, pool: &[f64], bytes: &mut [u8], numbers: &mut [f64])
 }
 
 // Whether every buffer holds what it held.
-fn untouched(out: &[f64], change: &[f64], sigma: &[f64], diagnostics: &[f64], scratch: &[f64]) -> bool {
+fn untouched(
+    out: &[f64],
+    change: &[f64],
+    sigma: &[f64],
+    diagnostics: &[f64],
+    scratch: &[f64],
+) -> bool {
     let a = all_are(out, BEFORE);
     let b = all_are(change, BEFORE);
     let c = all_are(sigma, BEFORE);

@@ -4,11 +4,10 @@ use mathlib.Core.Bool.{_&&_, cond}
 use mathlib.Core.List.{List}
 use lib.Dec.{leb}
 use lib.IntN.{pos}
-use lib.ListN.{length}
 use lib.Ieee.{Float, binary64, ofInt, lt}
 use Rattle.float.specs.Float.{_⊕_, _⊖_, _⊗_, _⊘_, #0, #1, #2, abs}
 use Rattle.sqrt.specs.Sqrt as Root
-use Rattle.sequence.specs.Sequence.{at, table, sumTo, dot}
+use Rattle.sequence.specs.Sequence.{at, sumTo, dot}
 use Rattle.solver.specs.declared.ObsDiagnostic.{ObsDiagnostic}
 use Rattle.design.specs.Design.{isFree, freeBefore}
 

@@ -3,11 +3,10 @@
 ghost use mathlib.Core.Path.{_≡_};
 ghost use Prim.Native.Nat.{_+_, _*_, _≤_};
 ghost use lib.ListN.{length, replicate};
-ghost use lib.Ieee.{Float};
 ghost use Rattle.float.specs.Float.{#0};
 ghost use Rattle.sequence.specs.Sequence.{filled, dot as dotOf};
 ghost use Rattle.design.specs.Design.{sheetAt, cosDec};
-ghost use Rattle.stats.specs.Stats.{degrees as degreesOf, sumSqSky, skyRms, popnSd, variance as varianceOf, sigmaAt, deviation as deviationOf, clamped as clampedOf, studentizedRow, diagnostic as diagnosticOf};
+ghost use Rattle.stats.specs.Stats.{degrees as degreesOf, sumSqSky, skyRms, popnSd, variance as varianceOf, sigmaAt, clamped as clampedOf, studentizedRow, diagnostic as diagnosticOf};
 use solver::ObsDiagnostic;
 
 // The squares of n stars' residuals on the sky, two residuals a star, as one sum in order.

@@ -1,7 +1,5 @@
 -- `solve` meets what its callees ask. Assumes nothing.
-use mathlib.Core.Path.{subst, sym, ap}
-use mathlib.Core.List.{List}
-use Prim.Native.Nat.{ℕ}
+use mathlib.Core.Path.{subst, sym}
 use Rattle.linalg.specs.Linalg.{Solved}
 use Rattle.replay_solves.specs.Systems.{Ordered}
 use Rattle.replay_solves.proofs.Laws.{fits, damped-ordered}

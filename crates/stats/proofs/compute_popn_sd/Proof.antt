@@ -1,6 +1,6 @@
 -- `stats::compute_popn_sd` meets its contract. Assumes nothing.
-use Prim.Native.Nat.{ℕ, _-_, _≤_, _<_}
-use mathlib.Core.Path.{_≡_, refl, _∙_}
+use Prim.Native.Nat.{_-_}
+use mathlib.Core.Path.{refl, _∙_}
 use borrow.Author.Tests.{le-leb, lt-leb}
 use Rattle.float.proofs.Bits.{whole-in}
 use Rattle.stats.specs.Stats.{popnSd}

@@ -3,7 +3,7 @@ use Prim.Native.Nat.{_≤_, _-_}
 use mathlib.Core.Path.{_≡_, refl, _∙_}
 use mathlib.Core.Logic.{inl, inr}
 use borrow.Author.Tests.{eq-eqb, ne-eqb}
-use lib.ListN.{length, replicate, length-set, length-replicate}
+use lib.ListN.{length, replicate, length-set}
 use Rattle.float.specs.Float.{#0}
 use Rattle.sequence.specs.Sequence.{filled}
 use Rattle.sequence.proofs.Fills.{filled-none, filled-end, stored}
