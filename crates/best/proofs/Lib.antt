@@ -1,0 +1,13 @@
+pub mod Ratios
+pub mod Close
+pub mod Rounding
+pub mod Operations
+pub mod Residuals
+pub mod Bound
+pub mod Compare
+pub mod Fraction
+pub mod Best
+pub mod Counts
+pub mod Turns
+pub mod Demand
+pub mod Examples

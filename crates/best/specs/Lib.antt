@@ -1,0 +1,2 @@
+pub mod ChiSquare
+pub mod Trials
