@@ -5,8 +5,9 @@ use mathlib.Core.Bool.{Bool, cond}
 use mathlib.Core.List.{List, [], _∷_, _++_, zipWith}
 use lib.Dec.{eqb}
 use lib.ListN.{length, getD, replicate}
-use lib.Ieee.{Float, eq}
-use Rattle.float.specs.Float.{_⊕_, _⊖_, _⊗_, #0}
+use lib.Ieee.{Float, binary64, lt, eq}
+use Rattle.float.specs.Float.{_⊕_, _⊖_, _⊗_, _⊘_, #0, abs}
+use Rattle.sqrt.specs.Sqrt.{sqrt}
 use Rattle.sequence.specs.Sequence.{part, at, table, each}
 use Rattle.observation.specs.Observation.{signOf, sideOf}
 use Rattle.observation.specs.Sheet.{placeDec}
@@ -101,11 +102,25 @@ subtractAll m c a b = each m 0 (λ j y. cond (eq (c j) #0) y (less (c j) y (a j)
 unfoldable pub product : ℕ → ℕ → (ℕ → Float) → (ℕ → List Float) → List Float
 product n m c a = each m 0 (λ j p. plus (c j) p (a j)) (replicate n #0)
 
+-- the same as residuals_under_state has it: a zero coefficient, -0 too, is skipped
+unfoldable pub predicted : ℕ → ℕ → (ℕ → Float) → (ℕ → List Float) → List Float
+predicted n m c a = each m 0 (λ j p. cond (eq (c j) #0) p (plus (c j) p (a j))) (replicate n #0)
+
 -- the columns of the free terms times x
 unfoldable pub freeProduct : ℕ → ℕ → List ℕ → List Float → (ℕ → List Float) → List Float
 freeProduct n m fixed x a = each m 0 (λ j p. cond (isFree fixed j) (plus (at x (freeBefore fixed j)) p (a j)) p) (replicate n #0)
 
--- columns one after the other, as the solver reads them: h numbers each, with zeros below the data rows
+-- ---- Huber weights, as build_lm_system has them
+
+-- a number of a row whose residual is r: times sqrt(k / |r|) where |r| is above k
+unfoldable pub weighed : Float → Float → Float → Float
+weighed k r x = cond (lt k (abs r)) (x ⊗ sqrt binary64 (k ⊘ abs r)) x
+
+-- a column whose rows have the residuals b; as it is where k isn't above 0
+unfoldable pub weighing : Float → List Float → List Float → List Float
+weighing k b a = cond (lt #0 k) (zipWith (weighed k) b a) a
+
+-- ---- columns one after the other, as the solver reads them: h numbers each, with zeros below the data rows
 unfoldable pub laid : ℕ → List (List Float) → List Float
 laid h [] = []
 laid h (a ∷ l) = a ++ replicate (h - length a) #0 ++ laid h l

@@ -1,5 +1,6 @@
 -- Columns and residuals by the star's number, as the loops over the lent slices fill them. Definitions only.
-use Prim.Native.Nat.{ℕ, zero, suc}
+use Prim.Native.Nat.{ℕ, zero, suc, _+_, _*_, _≤_}
+use mathlib.Core.Logic.{_⊎_}
 use mathlib.Core.List.{List, [], _∷_, _++_}
 use lib.ListN.{length, getD}
 use lib.Ieee.{Float}
@@ -30,3 +31,11 @@ differencesTo dh dd = rowsTo (length dh) (at dh) (at dd)
 
 unfoldable pub skyDifferencesTo : List Float → List Float → List Float → List Float
 skyDifferencesTo dh dd sheets = rowsTo (length dh) (λ i. at dh i ⊗ cosDec (sheetAt sheets i)) (at dd)
+
+-- scale_ha_rows_by_cos_dec of n stars' rows
+unfoldable pub skyRows : ℕ → (ℕ → Float) → List Float → List Float
+skyRows n cosDecs r = rowsTo n (λ i. at r (2 * i) ⊗ cosDecs i) (λ i. at r (2 * i + 1))
+
+-- n numbers from x on can be written one by one while those from y on are read
+abbrev pub Beside : ℕ → ℕ → ℕ → Type 0
+Beside x y n = (x ≤ y) ⊎ (y + n ≤ x)

@@ -7,8 +7,8 @@ ghost use lib.ListN.{length};
 ghost use lib.Seq.{sets};
 ghost use lib.Ieee.{binary64, sub};
 ghost use Rattle.sequence.specs.Sequence.{at, part};
-ghost use Rattle.design.specs.Design.{sheetAt, cosDec, less, plus, freeCount};
-ghost use Rattle.design.specs.Filled.{slopeAt, columnTo, skyColumnTo, differencesTo, skyDifferencesTo};
+ghost use Rattle.design.specs.Design.{sheetAt, cosDec, less, plus, freeCount, weighed as weighedOf, weighing};
+ghost use Rattle.design.specs.Filled.{slopeAt, columnTo, skyColumnTo, differencesTo, skyDifferencesTo, skyRows, Beside};
 use observation::Pair;
 use observation::PierSide;
 use terms::Term;
@@ -71,18 +71,7 @@ pub fn fill_sky_column(
     }
 }
 
-// The raw differences, two a star.
-pub fn build_residuals(dh: &[f64], dd: &[f64], b: &mut [f64])
-    requires { ⌜ (length (now dd) ≡ length (now dh)) × (length (now b) ≡ 2 * length (now dh)) ⌝ }
-    ensures { λ _. ⌜ now (b .exit) ≡ differencesTo (now (dh .entry)) (now (dd .entry)) ⌝ }
-{
-    for i in 0..dh.len() {
-        b[2 * i] = dh[i];
-        b[2 * i + 1] = dd[i];
-    }
-}
-
-// The same with the hour-angle rows times cos dec.
+// The raw differences, two a star, with the hour-angle rows times cos dec.
 pub fn build_sky_residuals(dh: &[f64], dd: &[f64], sheets: &[f64], b: &mut [f64])
     requires { ⌜ (length (now dd) ≡ length (now dh)) × (length (now sheets) ≡ 37 * length (now dh)) × (length (now b) ≡ 2 * length (now dh)) ⌝ }
     ensures { λ _. ⌜ now (b .exit) ≡ skyDifferencesTo (now (dh .entry)) (now (dd .entry)) (now (sheets .entry)) ⌝ }
@@ -91,6 +80,63 @@ pub fn build_sky_residuals(dh: &[f64], dd: &[f64], sheets: &[f64], b: &mut [f64]
         let c = cos_dec(sheets, i);
         b[2 * i] = dh[i] * c;
         b[2 * i + 1] = dd[i];
+    }
+}
+
+// The raw differences less what b holds.
+pub fn subtract_from_differences(dh: &[f64], dd: &[f64], b: &mut [f64])
+    requires { ⌜ (length (now dd) ≡ length (now dh)) × (length (now b) ≡ 2 * length (now dh)) ⌝ }
+    ensures { λ _. ⌜ now (b .exit) ≡ zipWith (sub binary64) (differencesTo (now (dh .entry)) (now (dd .entry))) (now (b .entry)) ⌝ }
+{
+    for i in 0..dh.len() {
+        let h = dh[i] - b[2 * i];
+        let d = dd[i] - b[2 * i + 1];
+        b[2 * i] = h;
+        b[2 * i + 1] = d;
+    }
+}
+
+// The hour-angle rows of n stars times cos dec.
+pub fn scale_ha_rows(sheets: &[f64], n: usize, b: &mut [f64])
+    requires { ⌜ (length (now sheets) ≡ 37 * n) × (length (now b) ≡ 2 * n) ⌝ }
+    ensures { λ _. ⌜ now (b .exit) ≡ skyRows n (λ i. cosDec (sheetAt (now (sheets .entry)) i)) (now (b .entry)) ⌝ }
+{
+    for i in 0..n {
+        let c = cos_dec(sheets, i);
+        b[2 * i] = b[2 * i] * c;
+    }
+}
+
+// The n numbers from y on become those from x on.
+pub fn copy(w: &mut [f64], x: usize, y: usize, n: usize)
+    requires { ⌜ (x + n ≤ y) × (y + n ≤ length (now w)) ⌝ }
+    ensures { λ _. ⌜ now (w .exit) ≡ sets (now (w .entry)) y (part (now (w .entry)) x n) ⌝ }
+{
+    for k in 0..n {
+        w[y + k] = w[x + k];
+    }
+}
+
+// A number of a row whose residual is r, with the row's Huber weight.
+fn weighed(k: f64, r: f64, x: f64) -> f64
+    ensures { λ v. ⌜ v ≡ weighedOf k r x ⌝ }
+{
+    let size = float::abs(r);
+    if size > k {
+        return x * sqrt::sqrt(k / size);
+    }
+    x
+}
+
+// The n numbers from x on, whose rows have the residuals from y on, with their Huber weights.
+pub fn weigh(w: &mut [f64], x: usize, y: usize, n: usize, k: f64)
+    requires { ⌜ Beside x y n × (x + n ≤ length (now w)) × (y + n ≤ length (now w)) ⌝ }
+    ensures { λ _. ⌜ now (w .exit) ≡ sets (now (w .entry)) x (weighing k (part (now (w .entry)) y n) (part (now (w .entry)) x n)) ⌝ }
+{
+    if k > 0.0 {
+        for i in 0..n {
+            w[x + i] = weighed(k, w[y + i], w[x + i]);
+        }
     }
 }
 
