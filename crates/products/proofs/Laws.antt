@@ -1,19 +1,22 @@
 -- What one term's turn leaves in the scratch, and the turns of the loops over the terms. Assumes nothing.
 use Prim.Native.Nat.{ℕ, _+_, _-_, _*_, _≤_, _<_}
 use native.Mathlib.Omega.{arith}
-use mathlib.Core.Path.{_≡_, sym, ap, _∙_}
-use mathlib.Core.Bool.{true, false, cond}
+use mathlib.Core.Path.{_≡_, refl, sym, ap, _∙_}
+use mathlib.Core.Logic.{inl, inr, ⊎-elim}
+use mathlib.Core.Bool.{Bool, true, false, cond}
 use mathlib.Core.List.{List, [], _∷_, _++_, zipWith, append-nil, append-assoc}
 use native.Mathlib.Numerals.{add-one}
 use lib.ListN.{length, take, drop, replicate}
 use lib.Seq.{sets, take-add, drop-drop}
-use lib.Ieee.{Float}
+use lib.Ieee.{Float, lt}
 use Rattle.float.specs.Float.{#0}
 use Rattle.sequence.specs.Sequence.{part, each, Only}
-use Rattle.sequence.proofs.Parts.{apart, part-sets-same, length-zip-part}
+use Rattle.sequence.proofs.Parts.{apart, length-part, part-sets-same, length-zip, length-zip-part}
 use Rattle.sequence.proofs.Fills.{each-none, each-last, each-next, each-end}
 use Rattle.sequence.proofs.Only.{only-none, only-sets, only-wider, only-then, length-cut, back, back-only, back-part}
-use Rattle.design.specs.Design.{isFree, freeBefore, freeCount, ofFree, laid}
+use Rattle.design.specs.Design.{isFree, freeBefore, freeCount, ofFree, weighed, weighing, laid}
+use Rattle.design.specs.Filled.{Beside}
+use Rattle.products.specs.Products.{Apart}
 use Rattle.design.proofs.Free.{free-none, free-next, taken-next, free-few}
 
 -- a column a has been written at x
@@ -33,6 +36,34 @@ combines f w w₁ w₂ a y n low room p e =
     let last : Only 0 (y + n) w₁ w₂ = rw e (only-wider y n 0 (y + n) w₁ (sets w₁ y z) (omega arith) (omega arith) (only-sets w₁ y n z (omega arith))) in (
       is ∙ ap (λ (l : List Float). zipWith f l (part w₁ 0 n)) old ∙ ap (zipWith f (part w y n)) (p .0),
       only-then 0 (y + n) w w₁ w₂ (only-wider 0 n 0 (y + n) w w₁ (omega arith) (omega arith) (p .1)) last,
+    )
+
+-- ---- Huber weights
+
+pub weighing-length : (k : Float) (b a : List Float) → length b ≡ length a → length (weighing k b a) ≡ length a
+unfolding weighing
+weighing-length k b a e = go (lt #0 k)
+  where
+    go : (t : Bool) → length (cond t (zipWith (weighed k) b a) a) ≡ length a
+    go true = length-zip (weighed k) b a e ∙ e
+    go false = refl
+
+pub apart-beside : (x n y : ℕ) → Apart x n y → Beside x y n
+apart-beside x n y (inl h) = inl (omega arith)
+apart-beside x n y (inr h) = inr h
+
+-- a column a has been written at x, and then weighed by the residuals at y
+pub weighs : (k : Float) (w w₁ w₂ a : List Float) (x n y : ℕ) → Apart x n y → x + n ≤ length w → y + n ≤ length w → (part w₁ x n ≡ a) × Only x n w w₁
+    → w₂ ≡ sets w₁ x (weighing k (part w₁ y n) (part w₁ x n)) → (part w₂ x n ≡ weighing k (part w y n) a) × Only x n w w₂
+weighs k w w₁ w₂ a x n y apart room room′ p e =
+    let long : length w₁ ≡ length w = p .1 .long in
+    let old : part w₁ y n ≡ part w y n = ⊎-elim (λ (h : x + n ≤ y). p .1 .above y n h) (λ (h : y + n ≤ x). p .1 .below y n h) apart in
+    let z = weighing k (part w₁ y n) (part w₁ x n) in
+    let there : length (part w₁ x n) ≡ n = length-part w₁ x n (omega arith) in
+    let count : length z ≡ n = weighing-length k (part w₁ y n) (part w₁ x n) (length-part w₁ y n (omega arith) ∙ sym there) ∙ there in
+    let is : part w₂ x n ≡ z = ap (λ (l : List Float). part l x n) e ∙ part-sets-same w₁ x n z count (omega arith) in (
+      is ∙ ap (λ (l : List Float). weighing k l (part w₁ x n)) old ∙ ap (weighing k (part w y n)) (p .0),
+      only-then x n w w₁ w₂ (p .1) (rw e (only-sets w₁ x n z (omega arith))),
     )
 
 -- ---- a loop whose turn j makes `step j` of what lies at y
