@@ -9,6 +9,7 @@ use Rattle.float.specs.Float.{_⊕_, _⊖_, _⊗_, _⊘_, #0, #1, #2, abs}
 use Rattle.sqrt.specs.Sqrt as Root
 use Rattle.sequence.specs.Sequence.{at, sumTo, dot}
 use Rattle.solver.specs.declared.ObsDiagnostic.{ObsDiagnostic}
+use Rattle.stats.specs.declared.Sky.{Sky}
 use Rattle.design.specs.Design.{isFree, freeBefore}
 
 abbrev pub sqrt : Float → Float
@@ -41,6 +42,10 @@ skyRms n cosDec r = cond (leb n 0) #0 (sqrt (sumSqSky n cosDec r ⊘ count n))
 -- 0 where there are no more stars than free terms
 unfoldable pub popnSd : ℕ → (ℕ → Float) → List Float → ℕ → Float
 popnSd n cosDec r nFree = cond (leb n nFree) #0 (sqrt (sumSqSky n cosDec r ⊘ count (n - nFree)))
+
+-- both
+abbrev pub skyFrom : ℕ → (ℕ → Float) → ℕ → List Float → Sky
+skyFrom n cosDec nFree r = record { rms = skyRms n cosDec r; «popn_sd» = popnSd n cosDec r nFree }
 
 -- ---- sigma: stars less rank
 

@@ -6,11 +6,17 @@ ghost use lib.ListN.{length, replicate};
 ghost use Rattle.float.specs.Float.{#0};
 ghost use Rattle.sequence.specs.Sequence.{filled, dot as dotOf};
 ghost use Rattle.design.specs.Design.{sheetAt, cosDec};
-ghost use Rattle.stats.specs.Stats.{degrees as degreesOf, sumSqSky, skyRms, popnSd, variance as varianceOf, sigmaAt, clamped as clampedOf, studentizedRow, diagnostic as diagnosticOf};
+ghost use Rattle.stats.specs.Stats.{degrees as degreesOf, sumSqSky, skyRms, popnSd, skyFrom, variance as varianceOf, sigmaAt, clamped as clampedOf, studentizedRow, diagnostic as diagnosticOf};
 use solver::ObsDiagnostic;
 
+// What is left on the sky.
+pub struct Sky {
+    pub rms: f64,
+    pub popn_sd: f64,
+}
+
 // The squares of n stars' residuals on the sky, two residuals a star, as one sum in order.
-fn sum_sq_sky(sheets: &[f64], r: &[f64], n: usize) -> f64
+pub fn sum_sq_sky(sheets: &[f64], r: &[f64], n: usize) -> f64
     requires { ⌜ (length (now sheets) ≡ 37 * n) × (length (now r) ≡ 2 * n) ⌝ }
     ensures { λ s. ⌜ s ≡ sumSqSky n (λ i. cosDec (sheetAt (now (sheets .entry)) i)) (now (r .entry)) ⌝ }
 {
@@ -23,7 +29,7 @@ fn sum_sq_sky(sheets: &[f64], r: &[f64], n: usize) -> f64
     sum
 }
 
-pub fn compute_sky_rms(sheets: &[f64], r: &[f64], n: usize) -> f64
+fn compute_sky_rms(sheets: &[f64], r: &[f64], n: usize) -> f64
     requires { ⌜ (n ≤ 1024) × (length (now sheets) ≡ 37 * n) × (length (now r) ≡ 2 * n) ⌝ }
     ensures { λ s. ⌜ s ≡ skyRms n (λ i. cosDec (sheetAt (now (sheets .entry)) i)) (now (r .entry)) ⌝ }
 {
@@ -33,7 +39,7 @@ pub fn compute_sky_rms(sheets: &[f64], r: &[f64], n: usize) -> f64
     sqrt::sqrt(sum_sq_sky(sheets, r, n) / n as f64)
 }
 
-pub fn compute_popn_sd(sheets: &[f64], r: &[f64], n: usize, n_free: usize) -> f64
+fn compute_popn_sd(sheets: &[f64], r: &[f64], n: usize, n_free: usize) -> f64
     requires { ⌜ (n ≤ 1024) × (length (now sheets) ≡ 37 * n) × (length (now r) ≡ 2 * n) ⌝ }
     ensures { λ s. ⌜ s ≡ popnSd n (λ i. cosDec (sheetAt (now (sheets .entry)) i)) (now (r .entry)) «n_free» ⌝ }
 {
@@ -41,6 +47,16 @@ pub fn compute_popn_sd(sheets: &[f64], r: &[f64], n: usize, n_free: usize) -> f6
         return 0.0;
     }
     sqrt::sqrt(sum_sq_sky(sheets, r, n) / (n - n_free) as f64)
+}
+
+// Of n stars' residuals, where n_free terms are free.
+pub fn on_the_sky(sheets: &[f64], r: &[f64], n: usize, n_free: usize) -> Sky
+    requires { ⌜ (n ≤ 1024) × (length (now sheets) ≡ 37 * n) × (length (now r) ≡ 2 * n) ⌝ }
+    ensures { λ s. ⌜ s ≡ skyFrom n (λ i. cosDec (sheetAt (now (sheets .entry)) i)) «n_free» (now (r .entry)) ⌝ }
+{
+    let rms = compute_sky_rms(sheets, r, n);
+    let popn_sd = compute_popn_sd(sheets, r, n, n_free);
+    Sky { rms, popn_sd }
 }
 
 // The sum of the squares of r.

@@ -5,7 +5,8 @@ use native.Mathlib.Omega.{arith}
 use lib.ListN.{length}
 use lib.Seq.{length-take-le}
 use Rattle.validate.specs.Call.{lent, buffers}
-use Rattle.single_step.proofs.Outcome.{fits-ready, placed-step, refilled, whole}
+use Rattle.outcome.proofs.Laws.{fits-ready, refilled}
+use Rattle.single_step.proofs.Outcome.{placed-step, whole}
 use borrow.Author.Needs.{needs}
 use Rattle.single_step.proofs.fit.Statement.{statement}
 use Rattle.single_step.proofs.fit.Tie as tie

@@ -1,8 +1,8 @@
 -- `single_step::fit_model` meets its contract. Assumes nothing.
 use mathlib.Core.Path.{ap, _∙_}
 use Rattle.validate.specs.Call.{lent, buffers, sizesOf}
-use Rattle.validate.specs.Questions.{asked}
-use Rattle.single_step.proofs.Passed.{ready}
+use Rattle.validate.specs.Questions.{asked, noOptions}
+use Rattle.validate.proofs.Passed.{ready}
 use Rattle.single_step.proofs.Outcome.{refused, accepted}
 use borrow.Author.Needs.{needs}
 use Rattle.single_step.proofs.fit_model.Statement.{statement}
@@ -23,7 +23,7 @@ enum-known-asked-2 c = search needs
 fit-requires : tie.Need-fit-requires
 fit-requires c κs =
     let a = c .before .before .before .before .before .before .before .before .before .before .before .before .before .before .before .before .before .before .before .before .before .before .args in
-    ready (lent (a .names .now) (a .fixed .now) (a .coefficients .now) (a .dh .now) (a .dd .now) (a .pier .now) (a .sheets .now) (a .sin-lat) (a .cos-lat) (a .fit-tol)) (sizesOf (buffers (a .out .now) (a .change .now) (a .sigma .now) (a .diagnostics .now) (a .scratch .now))) _ _ (c .before .before .before .before .before .before .asked2 .given .1) (c .before .before .before .before .before .before .before .before .questions .ensures ∙ ap (λ o. asked (lent (a .names .now) (a .fixed .now) (a .coefficients .now) (a .dh .now) (a .dd .now) (a .pier .now) (a .sheets .now) (a .sin-lat) (a .cos-lat) (a .fit-tol)) o (sizesOf (buffers (a .out .now) (a .change .now) (a .sigma .now) (a .diagnostics .now) (a .scratch .now)))) (c .before .before .before .before .before .before .before .before .before .no-options .ensures))
+    ready (lent (a .names .now) (a .fixed .now) (a .coefficients .now) (a .dh .now) (a .dd .now) (a .pier .now) (a .sheets .now) (a .sin-lat) (a .cos-lat) (a .fit-tol)) noOptions (sizesOf (buffers (a .out .now) (a .change .now) (a .sigma .now) (a .diagnostics .now) (a .scratch .now))) _ _ (c .before .before .before .before .before .before .asked2 .given .1) (c .before .before .before .before .before .before .before .before .questions .ensures ∙ ap (λ o. asked (lent (a .names .now) (a .fixed .now) (a .coefficients .now) (a .dh .now) (a .dd .now) (a .pier .now) (a .sheets .now) (a .sin-lat) (a .cos-lat) (a .fit-tol)) o (sizesOf (buffers (a .out .now) (a .change .now) (a .sigma .now) (a .diagnostics .now) (a .scratch .now)))) (c .before .before .before .before .before .before .before .before .before .no-options .ensures))
 
 returns : tie.Need-returns
 returns c =

@@ -1,9 +1,7 @@
 -- `single_step::on_the_sky` meets its contract. Assumes nothing.
-use Prim.Native.Nat.{ℕ}
+use Prim.Native.Nat.{_*_}
 use lib.ListN.{length}
-use lib.Ieee.{Float}
-use Rattle.design.specs.Design.{sheetAt, cosDec}
-use Rattle.single_step.proofs.Laws.{seen}
+use Rattle.outcome.proofs.Laws.{seen}
 use borrow.Author.Needs.{needs}
 use Rattle.single_step.proofs.on_the_sky.Statement.{statement}
 use Rattle.single_step.proofs.on_the_sky.Tie as tie
@@ -14,52 +12,33 @@ residuals-requires c κs = search needs
 mul-rows : tie.Need-mul-rows
 mul-rows c = search needs
 
-add-compute-sky-rms : tie.Need-add-compute-sky-rms
-add-compute-sky-rms c = search needs
+add-on-the-sky : tie.Need-add-on-the-sky
+add-on-the-sky c = search needs
 
-mul-compute-sky-rms : tie.Need-mul-compute-sky-rms
-mul-compute-sky-rms c = search needs
+mul-on-the-sky : tie.Need-mul-on-the-sky
+mul-on-the-sky c = search needs
 
-sub-compute-sky-rms : tie.Need-sub-compute-sky-rms
-sub-compute-sky-rms c = search needs
+sub-on-the-sky : tie.Need-sub-on-the-sky
+sub-on-the-sky c = search needs
 
-part-compute-sky-rms-start : tie.Need-part-compute-sky-rms-start
-part-compute-sky-rms-start c = search needs
+part-on-the-sky-start : tie.Need-part-on-the-sky-start
+part-on-the-sky-start c = search needs
 
-part-compute-sky-rms-end : tie.Need-part-compute-sky-rms-end
-part-compute-sky-rms-end c = search needs
+part-on-the-sky-end : tie.Need-part-on-the-sky-end
+part-on-the-sky-end c = search needs
 
-compute-sky-rms-requires : tie.Need-compute-sky-rms-requires
-compute-sky-rms-requires c κs = search needs
-
-add-compute-popn-sd : tie.Need-add-compute-popn-sd
-add-compute-popn-sd c = search needs
-
-mul-compute-popn-sd : tie.Need-mul-compute-popn-sd
-mul-compute-popn-sd c = search needs
-
-sub-compute-popn-sd : tie.Need-sub-compute-popn-sd
-sub-compute-popn-sd c = search needs
-
-part-compute-popn-sd-start : tie.Need-part-compute-popn-sd-start
-part-compute-popn-sd-start c = search needs
-
-part-compute-popn-sd-end : tie.Need-part-compute-popn-sd-end
-part-compute-popn-sd-end c = search needs
-
-compute-popn-sd-requires : tie.Need-compute-popn-sd-requires
-compute-popn-sd-requires c κs = search needs
+on-the-sky-requires : tie.Need-on-the-sky-requires
+on-the-sky-requires c κs = search needs
 
 same-length : tie.Need-same-length
 same-length c = search needs
 
 returns : tie.Need-returns
 returns c =
-    let rms = c .before .before in
-    let left = rms .before .before .before .before .before in
-    let a = left .before .before .before .before .before .before .before .before .args in
-    let cosDecs : ℕ → Float = λ i. cosDec (sheetAt (a .sheets .now) i) in
-    (seen (length (a .pier .now)) (a .free) cosDecs (left .residuals .last .1 .1 .1 .1 .1 .1 .1 .1 .1 .0) _ _ _ (left .residuals .ensures .0) (rms .compute-sky-rms .ensures) (c .compute-popn-sd .ensures), left .residuals .ensures .1)
+    let left = c .before .before .before .before .before in
+    let a = c .before .before .before .before .before .before .before .before .before .before .before .before .before .args in
+    let n = length (a .pier .now) in
+    (seen n (a .free) (2 * n) _ (left .residuals .last .1 .1 .1 .1 .1 .1 .1 .1 .1 .0) _ _ (left .residuals .ensures .0) (c .on-the-sky .ensures), left .residuals .ensures .1)
 
 pub on-the-sky-spec : {M : Type 1} → statement M
 on-the-sky-spec =
@@ -67,17 +46,11 @@ on-the-sky-spec =
     (tie.spec
     residuals-requires
     mul-rows
-    add-compute-sky-rms
-    mul-compute-sky-rms
-    sub-compute-sky-rms
-    part-compute-sky-rms-start
-    part-compute-sky-rms-end
-    compute-sky-rms-requires
-    add-compute-popn-sd
-    mul-compute-popn-sd
-    sub-compute-popn-sd
-    part-compute-popn-sd-start
-    part-compute-popn-sd-end
-    compute-popn-sd-requires
+    add-on-the-sky
+    mul-on-the-sky
+    sub-on-the-sky
+    part-on-the-sky-start
+    part-on-the-sky-end
+    on-the-sky-requires
     same-length
     returns)

@@ -1,12 +1,12 @@
--- `single_step::free_residuals` meets its contract. Assumes nothing.
+-- `outcome::free_residuals` meets its contract. Assumes nothing.
 use Prim.Native.Nat.{_*_}
 use native.Mathlib.Omega.{arith}
 use lib.ListN.{length}
 use lib.Ieee.{binary64, sub}
-use Rattle.single_step.proofs.Laws.{taken-from}
+use Rattle.outcome.proofs.Laws.{taken-from}
 use borrow.Author.Needs.{needs}
-use Rattle.single_step.proofs.free_residuals.Statement.{statement}
-use Rattle.single_step.proofs.free_residuals.Tie as tie
+use Rattle.outcome.proofs.free_residuals.Statement.{statement}
+use Rattle.outcome.proofs.free_residuals.Tie as tie
 
 mul-rows : tie.Need-mul-rows
 mul-rows c = search needs
@@ -30,7 +30,7 @@ returns c =
     let s = product .before .before .before .before .before .before .before in
     let a = s .args in
     let n = length (a .pier .now) in
-    taken-from (sub binary64) (a .w .now) (product .free-product .last .1 .1 .1 .1 .1 .1 .1 .0) _ _ (2 * n) (4 * n) (2 * n) (omega arith) (omega (arith, s .pre .3)) (product .free-product .ensures) (less .subtract-from .ensures)
+    taken-from (sub binary64) (a .w .now) (product .free-product .last .1 .1 .1 .1 .1 .1 .1 .1 .0) _ _ (2 * n) (4 * n) (2 * n) (omega arith) (omega (arith, s .pre .3)) (product .free-product .ensures) (less .subtract-from .ensures)
 
 pub free-residuals-spec : {M : Type 1} → statement M
 free-residuals-spec =

@@ -1,12 +1,12 @@
--- `single_step::copy` meets its contract. The invariant: the first j places are filled. Assumes nothing.
+-- `outcome::copy` meets its contract. The invariant: the first j places are filled. Assumes nothing.
 use Prim.Native.Nat.{_≤_, _-_}
 use native.Mathlib.Omega.{arith}
 use mathlib.Core.Path.{_≡_, refl}
 use lib.ListN.{length, length-set}
 use Rattle.sequence.specs.Sequence.{at, filled}
 use Rattle.sequence.proofs.Fills.{filled-none, stored, filled-end}
-use Rattle.single_step.proofs.copy.Statement.{statement}
-use Rattle.single_step.proofs.copy.Tie as tie
+use Rattle.outcome.proofs.copy.Statement.{statement}
+use Rattle.outcome.proofs.copy.Tie as tie
 
 abbrev Inv-loop : tie.InvT-loop
 Inv-loop x m out₀ j₀ out j = (j ≤ m) × (length out ≡ length out₀) × (out ≡ filled j (at x) out₀)

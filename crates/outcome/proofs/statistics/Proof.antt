@@ -1,14 +1,14 @@
--- `single_step::statistics` meets its contract. Assumes nothing.
+-- `outcome::statistics` meets its contract. Assumes nothing.
 use mathlib.Core.Path.{sym}
 use Prim.Native.Nat.{_+_, _*_, _≤_}
 use native.Mathlib.Omega.{arith}
 use lib.ListN.{length}
 use Rattle.sequence.proofs.Only.{length-cut}
 use Rattle.design.specs.Design.{freeCount}
-use Rattle.single_step.proofs.Laws.{order-long, placed-lent, sigma-given, diagnostics-given}
+use Rattle.outcome.proofs.Laws.{order-long, placed-lent, sigma-given, diagnostics-given}
 use borrow.Author.Needs.{needs}
-use Rattle.single_step.proofs.statistics.Statement.{statement}
-use Rattle.single_step.proofs.statistics.Tie as tie
+use Rattle.outcome.proofs.statistics.Statement.{statement}
+use Rattle.outcome.proofs.statistics.Tie as tie
 
 mul-rows : tie.Need-mul-rows
 mul-rows c = search needs

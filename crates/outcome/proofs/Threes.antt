@@ -8,7 +8,7 @@ use lib.ListN.{length, getD, set, drop, length-append}
 use lib.Seq.{drop-cons, set-at, append-snoc}
 use lib.Ieee.{Float, nan}
 use Rattle.solver.specs.declared.ObsDiagnostic.{ObsDiagnostic}
-use Rattle.single_step.specs.SingleStep.{threes}
+use Rattle.outcome.specs.Outcome.{threes}
 
 module _ (f : ℕ → ObsDiagnostic) where
   threes-length : (n : ℕ) → length (threes n f) ≡ 3 * n

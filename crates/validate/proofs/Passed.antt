@@ -9,11 +9,12 @@ use lib.ListN.{length}
 use Rattle.sequence.specs.Sequence.{every}
 use Rattle.terms.specs.Questions.{Question, ask, firstNo}
 use Rattle.design.specs.Design.{freeCount}
+use Rattle.solver.specs.declared.IterOptions.{IterOptions}
 use Rattle.validate.specs.Call.{Lent, Sizes}
-use Rattle.validate.specs.Questions.{limits, counts, room, scratchNeeded, finiteInput, finiteOptions, codesKnown, namesNo, asked, noOptions, Ready}
+use Rattle.validate.specs.Questions.{limits, counts, room, scratchNeeded, finiteInput, finiteOptions, codesKnown, namesNo, asked, Ready}
 use Rattle.validate.specs.declared.Asked.{Asked}
 use Rattle.validate.specs.declared.Asked.the-variants.{Pass, No}
 use Rattle.validate.proofs.Laws.{and-left, and-right, limits-facts, counts-facts}
 
 one : (b : Bool) (r : Asked) (k f : ℕ) (t : Bool) → Pass f ≡ cond b r (No k) → (Pass f ≡ r → t ≡ true) → (b && t) ≡ true
 one true r k f t h g = g h
@@ -70,9 +71,9 @@ room-facts s m n e =
       scratch-room = leb-true (scratchNeeded m n) (s .scratch) (and-right (a && b && c && d) f e);
     }
 
-pub ready : (l : Lent) (s : Sizes) (free : ℕ) (r : Asked) → r ≡ Pass free → r ≡ asked l noOptions s → Ready l s
+pub ready : (l : Lent) (o : IterOptions) (s : Sizes) (free : ℕ) (r : Asked) → r ≡ Pass free → r ≡ asked l o s → Ready l s
 unfolding asked
-ready l s free r e q =
+ready l o s free r e q =
     let m = length (l .coefficients) in
     let n = length (l .dh) in
     let fc = freeCount (l .fixed) in
@@ -80,10 +81,10 @@ ready l s free r e q =
     let q1 = limits m n in
     let q2 = counts (length (l .names)) (length (l .fixed)) (length (l .dd)) (length (l .pier)) (length (l .sheets)) m n in
     let q3 = room s m n in
-    let q4 = finiteInput l && finiteOptions noOptions in
+    let q4 = finiteInput l && finiteOptions o in
     let q5 = codesKnown (l .pier) (l .fixed) in
-    let t = all free fc (ask q1 1 ∷ ask q2 2 ∷ ask q3 3 ∷ ask q4 4 ∷ ask q5 5 ∷ ask (leb 0 1000) 6 ∷ ask (eqb no 0) no ∷ ask (ltb 0 m) 11 ∷ ask (ltb 0 fc) 12 ∷ ask (leb fc n) 13 ∷ []) (sym e ∙ q) in
-    let y = some q1 q2 q3 q4 q5 (leb 0 1000) (eqb no 0) (ltb 0 m) (ltb 0 fc) (leb fc n && true) t in
+    let t = all free fc (ask q1 1 ∷ ask q2 2 ∷ ask q3 3 ∷ ask q4 4 ∷ ask q5 5 ∷ ask (leb (o .«max_iter») 1000) 6 ∷ ask (eqb no 0) no ∷ ask (ltb 0 m) 11 ∷ ask (ltb 0 fc) 12 ∷ ask (leb fc n) 13 ∷ []) (sym e ∙ q) in
+    let y = some q1 q2 q3 q4 q5 (leb (o .«max_iter») 1000) (eqb no 0) (ltb 0 m) (ltb 0 fc) (leb fc n && true) t in
     let f = limits-facts m n (y .0) in
     let c = counts-facts (length (l .names)) (length (l .fixed)) (length (l .dd)) (length (l .pier)) (length (l .sheets)) m n (y .1) in
     let h = room-facts s m n (y .2) in

@@ -1,4 +1,4 @@
--- `single_step::compute_diagnostics` meets its contract. The invariant: the numbers of the first i stars are written. Assumes nothing.
+-- `outcome::compute_diagnostics` meets its contract. The invariant: the numbers of the first i stars are written. Assumes nothing.
 use Prim.Native.Nat.{ℕ, _≤_, _-_, _+_, _*_}
 use native.Mathlib.Omega.{arith}
 use mathlib.Core.Path.{_≡_, refl, _∙_}
@@ -9,10 +9,10 @@ use Rattle.sequence.specs.Sequence.{at}
 use Rattle.solver.specs.declared.ObsDiagnostic.{ObsDiagnostic}
 use Rattle.linalg.specs.Linalg.{leverageOf}
 use Rattle.stats.specs.Stats.{variance, deviation, diagnostic}
-use Rattle.single_step.specs.SingleStep.{threes}
-use Rattle.single_step.proofs.Threes.{threes-none, threes-step, threes-end}
-use Rattle.single_step.proofs.compute_diagnostics.Statement.{statement}
-use Rattle.single_step.proofs.compute_diagnostics.Tie as tie
+use Rattle.outcome.specs.Outcome.{threes}
+use Rattle.outcome.proofs.Threes.{threes-none, threes-step, threes-end}
+use Rattle.outcome.proofs.compute_diagnostics.Statement.{statement}
+use Rattle.outcome.proofs.compute_diagnostics.Tie as tie
 
 -- what is written of star i
 abbrev diagnostic-at : ℕ → List Float → List ℕ → List Float → List Float → ℕ → ℕ → ℕ → ObsDiagnostic
