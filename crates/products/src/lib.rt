@@ -16,7 +16,7 @@ ghost use Rattle.products.specs.Products.{Held, Apart, weighedTo};
 use terms::Term;
 
 // The term of slot j.
-fn term_at(names: &[u8], j: usize) -> Term
+pub fn term_at(names: &[u8], j: usize) -> Term
     requires { ⌜ 16 * j + 16 ≤ length (now names) ⌝ }
     ensures { λ r. ⌜ r ≡ termAt (now (names .entry)) j ⌝ }
 {

@@ -71,7 +71,7 @@ fn squares(r: &[f64]) -> f64
 }
 
 // n less k, and at least 1.
-fn degrees(n: usize, k: usize) -> usize
+pub fn degrees(n: usize, k: usize) -> usize
     ensures { λ r. ⌜ (r ≡ degreesOf n k) × (r ≤ n + 1) ⌝ }
 {
     if n <= k {

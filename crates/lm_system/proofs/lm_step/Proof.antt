@@ -1,0 +1,84 @@
+-- `lm_system::lm_step` meets its contract. Assumes nothing.
+use mathlib.Core.Path.{_∙_}
+use Prim.Native.Nat.{_*_}
+use native.Mathlib.Omega.{arith}
+use lib.ListN.{length}
+use borrow.Author.Needs.{needs}
+use Rattle.validate.specs.Call.{lent}
+use Rattle.outcome.proofs.Laws.{columns-room, solve-ready}
+use Rattle.lm_system.proofs.Laws.{stepped}
+use Rattle.lm_system.proofs.lm_step.Statement.{statement}
+use Rattle.lm_system.proofs.lm_step.Tie as tie
+
+mul-rows : tie.Need-mul-rows
+mul-rows c = search needs
+
+mul-h : tie.Need-mul-h
+mul-h c = search needs
+
+add-h : tie.Need-add-h
+add-h c = search needs
+
+mul-b : tie.Need-mul-b
+mul-b c = search needs
+
+mul-c : tie.Need-mul-c
+mul-c c = search needs
+
+free-count-requires : tie.Need-free-count-requires
+free-count-requires c κs = search needs
+
+weighed-residuals-requires : tie.Need-weighed-residuals-requires
+weighed-residuals-requires c κs = search needs
+
+free-columns-requires : tie.Need-free-columns-requires
+free-columns-requires c κs =
+    let weighed = c .before .before .before in
+    let s = c .before .before .before .before .before .before .before .before .before .before .before .before .before .before in
+    let a = s .args in (
+      record { few = omega (arith, s .pre .names-count, s .pre .terms); stars = omega (arith, s .pre .pier-count, s .pre .stars); sheets-count = omega (arith, s .pre .pier-count, s .pre .sheets-count) },
+      omega (arith, s .pre .terms, s .pre .fixed-count),
+      omega (arith, s .pre .names-count, s .pre .fixed-count),
+      omega (arith, s .pre .pier-count),
+      omega (arith, s .pre .pier-count),
+      columns-room (lent (a .names .now) (a .fixed .now) (a .set .now) (a .dh .now) (a .dd .now) (a .pier .now) (a .sheets .now) (a .sin-lat) (a .cos-lat) (a .fit-tol)) (a .w .now) (weighed .weighed-residuals .last .1 .1 .1 .1 .1 .1 .1 .1 .1 .1 .1 .0) (s .pre) (weighed .weighed-residuals .ensures .2 .long),
+    )
+
+solve-damped-requires : tie.Need-solve-damped-requires
+solve-damped-requires c κs =
+    let laid = c .before .before .before in
+    let weighed = c .before .before .before .before .before .before .before in
+    let counted = c .before .before .before .before .before .before .before .before .before in
+    let s = c .before .before .before .before .before .before .before .before .before .before .before .before .before .before .before .before .before .before in
+    let a = s .args in
+    let long = laid .free-columns .ensures .1 .long ∙ weighed .weighed-residuals .ensures .2 .long in
+    let r = solve-ready (lent (a .names .now) (a .fixed .now) (a .set .now) (a .dh .now) (a .dd .now) (a .pier .now) (a .sheets .now) (a .sin-lat) (a .cos-lat) (a .fit-tol)) (a .w .now) (laid .free-columns .last .1 .1 .1 .1 .1 .1 .1 .0) (counted .free-count .result) (s .pre) long (counted .free-count .ensures) in
+    (r .0, r .1, omega (arith, r .2), r .3, omega arith)
+
+same-length : tie.Need-same-length
+same-length c = search needs
+
+returns : tie.Need-returns
+returns c =
+    let laid = c .before .before .before .before .before .before in
+    let weighed = c .before .before .before .before .before .before .before .before .before .before in
+    let counted = c .before .before .before .before .before .before .before .before .before .before .before .before in
+    let s = c .before .before .before .before .before .before .before .before .before .before .before .before .before .before .before .before .before .before .before .before .before in
+    let a = s .args in
+    stepped (lent (a .names .now) (a .fixed .now) (a .set .now) (a .dh .now) (a .dd .now) (a .pier .now) (a .sheets .now) (a .sin-lat) (a .cos-lat) (a .fit-tol)) (a .w .now) (s .pre) (weighed .weighed-residuals .last .1 .1 .1 .1 .1 .1 .1 .1 .1 .1 .1 .0) (laid .free-columns .last .1 .1 .1 .1 .1 .1 .1 .0) _ (counted .free-count .result) (a .k) (a .lambda) _ (counted .free-count .ensures) (weighed .weighed-residuals .ensures) (laid .free-columns .ensures) (c .before .before .solve-damped .ensures)
+
+pub lm-step-spec : {M : Type 1} → statement M
+lm-step-spec =
+    tie.close
+    (tie.spec
+    mul-rows
+    mul-h
+    add-h
+    mul-b
+    mul-c
+    free-count-requires
+    weighed-residuals-requires
+    free-columns-requires
+    solve-damped-requires
+    same-length
+    returns)
