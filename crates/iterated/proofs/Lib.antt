@@ -1,0 +1,4 @@
+pub mod Laws
+pub mod Search
+pub mod Best
+pub mod Outcome

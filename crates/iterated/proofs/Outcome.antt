@@ -1,0 +1,100 @@
+-- The parts of an accepted fit, and a call by the answer of its questions. Assumes nothing.
+use Prim.Native.Nat.{ℕ, _+_, _*_, _≤_}
+use native.Mathlib.Omega.{arith}
+use mathlib.Core.Path.{_≡_, refl, sym, ap, _∙_}
+use mathlib.Core.List.{List, _++_}
+use lib.ListN.{length, take, drop, replicate}
+use lib.Ieee.{Float, le, ofBits}
+use Rattle.float.specs.Float.{_⊖_, #0}
+use Rattle.column.specs.Column.{zeros}
+use Rattle.sequence.specs.Sequence.{at, part, filled, Only}
+use Rattle.sequence.proofs.Fills.{filled-front}
+use Rattle.linalg.specs.declared.SolveOutcome.{SolveOutcome}
+use Rattle.linalg.specs.Linalg.{Placed, leverageOf, solved, solvedDamped}
+use Rattle.validate.specs.Call.{Lent, Buffers, buffers, sizesOf}
+use Rattle.validate.specs.Questions.{scratchNeeded, asked}
+use Rattle.validate.specs.declared.Asked.{Asked}
+use Rattle.validate.specs.declared.Asked.the-variants.{Pass, No}
+use Rattle.validate.proofs.Passed.{ready}
+use Rattle.solver.specs.declared.Fit.the-variants.{Done, Refused}
+use Rattle.solver.specs.declared.FitResult.{FitResult}
+use Rattle.solver.specs.declared.IterOptions.{IterOptions}
+use Rattle.stats.specs.declared.Sky.{Sky}
+use Rattle.stats.specs.Stats.{skyFrom, variance, sigmaAt}
+use Rattle.design.specs.Design.{freeCount}
+use Rattle.outcome.specs.Outcome.{cosDecs, rowsOf, heightOf, diagnosticFrom, threes, resultOf, outcome, finished, Fits}
+use Rattle.outcome.proofs.Laws.{placed-solved, finishes, answers}
+use Rattle.lm_system.specs.System.{residuals, huberK, lmStep}
+use Rattle.iterated.specs.declared.LmLoopResult.{LmLoopResult}
+use Rattle.iterated.specs.Iterated.{under, lmLoop, lastStep, lastSet, freeResiduals, change, reported, fitted, decided, iteratedOutcome, Searched}
+use Rattle.iterated.specs.Demand3.{Demand3}
+use Rattle.iterated.proofs.Best.{kept-end, fitted-demand}
+
+-- ---- the parts of an accepted fit; w is the scratch after the search
+
+-- a step without damping: the columns and residuals that are solved
+undamped : (l : Lent) (k : Float) → (a : List Float) × (b : List Float) × (lmStep l k #0 ≡ solved (heightOf l) (rowsOf l) (freeCount (l .fixed)) a b (l .fitTol))
+unfolding lmStep solvedDamped le ofBits
+undamped l k = (_, _, refl)
+
+-- the solved columns lie in w
+pub placed-last : (l : Lent) (o : IterOptions) (w₀ w set : List Float) (how : LmLoopResult) (a : SolveOutcome) → Fits l w₀ → Searched l o w₀ w set how a
+    → (8 * length (l .dh) + freeCount (l .fixed) * heightOf l ≤ length w)
+    × Placed (heightOf l) (part w (8 * length (l .dh)) (freeCount (l .fixed) * heightOf l)) (take (freeCount (l .fixed)) (a .order))
+    × (length (take (freeCount (l .fixed)) (a .order)) ≡ freeCount (l .fixed))
+placed-last l o w₀ w set how a f st =
+    let r = lmLoop l o in
+    let q = undamped (under l (r .set)) (huberK l o (r .how .«prev_chi2»)) in
+    let e = ap (λ (m : ℕ). solved (2 * length (l .dh) + 2 * m) (rowsOf l) (freeCount (l .fixed)) (q .0) (q .1) (l .fitTol)) (kept-end l o .long) in
+    placed-solved l w₀ w (q .0) (q .1) a f (st .last .only .long) (st .last .solution ∙ q .2 ∙ e)
+
+pub whole : (l : Lent) (o : IterOptions) (b : Buffers) (w w₂ zs set moved out′ change′ sigma′ diag′ : List Float) (how : LmLoopResult) (a : SolveOutcome) (free need : ℕ) (sky : Sky)
+    → Fits l (b .scratch) → free ≡ freeCount (l .fixed) → need ≡ scratchNeeded (length (l .coefficients)) (length (l .dh))
+    → Searched l o (b .scratch) w set how a
+    → moved ≡ filled (length (l .coefficients)) (λ j. at (take (length (l .coefficients)) set) j ⊖ at (l .coefficients) j) zeros
+    → out′ ≡ filled (length (l .coefficients)) (at set) (b .coefficients)
+    → change′ ≡ filled (length (l .coefficients)) (at moved) (b .change)
+    → (sigma′ ≡ filled (length (l .coefficients)) (at (filled (length (l .coefficients)) (sigmaAt (l .fixed) (variance (part w (2 * length (l .dh)) (2 * length (l .dh))) (length (l .dh)) (a .rank)) (a .«cov_diag»)) zeros)) (b .sigma))
+    × (diag′ ≡ threes (length (l .dh)) (diagnosticFrom (length (l .dh)) (a .rank) (part w (2 * length (l .dh)) (2 * length (l .dh))) (leverageOf (heightOf l) (part w (8 * length (l .dh)) (freeCount (l .fixed) * heightOf l)) (take (freeCount (l .fixed)) (a .order)) (a .«inv_s»))) ++ drop (3 * length (l .dh)) (b .diagnostics))
+    → (sky ≡ skyFrom (length (l .dh)) (cosDecs l) free (residuals (under l (take (length (l .coefficients)) set)))) × Only 0 (4 * length (l .dh)) w w₂
+    → need ≤ length w₂ → zs ≡ replicate (length (take need w₂)) #0
+    → outcome
+    (Done (record {
+      «sky_rms» = sky .rms;
+      «popn_sd» = sky .«popn_sd»;
+      «rank_info» = record { «n_free» = free; rank = a .rank; «sigma_max» = a .«sigma_max»; «sigma_min» = a .«sigma_min»; tol = l .fitTol };
+      «iter_report» = reported how;
+    }))
+    (buffers out′ change′ sigma′ diag′ (zs ++ drop need w₂))
+    ≡ fitted l o b
+unfolding fitted change
+whole l o b w w₂ zs set moved out′ change′ sigma′ diag′ how a free need sky f ef en st em eo ec es ek room ez =
+    let m = length (l .coefficients) in
+    let r = lmLoop l o in
+    let chi2 = r .how .«prev_chi2» in
+    let S = take m set in
+    let s = lastSet l o chi2 (r .set) in
+    let last = lastStep l o chi2 (r .set) in
+    let left = freeResiduals l o chi2 (r .set) in
+    let t = st .last in
+    let eo′ : out′ ≡ filled m (at S) (b .coefficients) = eo ∙ sym (filled-front m set (b .coefficients) (omega (arith, st .long, f .terms))) in
+    let answer = resultOf l (last .outcome) (residuals (under l s)) (reported (r .how)) in
+    finishes l b w w₂ zs S moved left out′ change′ sigma′ diag′ a last (4 * length (l .dh)) need _ f en (t .solution) (t .left) (t .only) eo′ ec es (omega arith) (ek .1) room ez
+    ∙ ap (λ (x : FitResult). finished l b S moved last left x) (answers l _ _ a last sky free (reported how) ef (t .solution) (ek .0))
+    ∙ ap (λ (x : LmLoopResult). finished l b S moved last left (resultOf l (last .outcome) (residuals (under l S)) (reported x))) (st .came)
+    ∙ ap (λ (x : List Float). finished l b S x last left (resultOf l (last .outcome) (residuals (under l S)) (reported (r .how)))) em
+    ∙ ap (λ (x : List Float). finished l b x (filled m (λ j. at x j ⊖ at (l .coefficients) j) zeros) last left (resultOf l (last .outcome) (residuals (under l x)) (reported (r .how)))) (t .kept)
+
+-- ---- a call by the answer of its questions
+
+pub refused : (l : Lent) (o : IterOptions) (b : Buffers) (k : ℕ) (a : Asked) → a ≡ No k → a ≡ asked l o (sizesOf b)
+    → (outcome (Refused k) b ≡ iteratedOutcome l o b) × Demand3 l o (Refused k) (b .coefficients)
+unfolding iteratedOutcome
+refused l o b k a e q = (ap (λ z. decided z l o b) (sym e ∙ q), tt)
+
+pub accepted : (l : Lent) (o : IterOptions) (b : Buffers) (out change sigma diag scratch : List Float) (r : FitResult) (free : ℕ) (a : Asked) → a ≡ Pass free → a ≡ asked l o (sizesOf b)
+    → outcome (Done r) (buffers out change sigma diag scratch) ≡ fitted l o b
+    → (outcome (Done r) (buffers out change sigma diag scratch) ≡ iteratedOutcome l o b) × Demand3 l o (Done r) out
+unfolding iteratedOutcome
+accepted l o b out change sigma diag scratch r free a e q w =
+    (w ∙ ap (λ z. decided z l o b) (sym e ∙ q), fitted-demand l o b _ r (ready l o (sizesOf b) free a e q .stars) w)

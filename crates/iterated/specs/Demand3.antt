@@ -1,0 +1,42 @@
+-- Demand 3, of the iterated fit: the set that it returns is the best of all the sets that it tries. Definitions only.
+use Prim.Native.Nat.{ℕ, _+_, _*_, _≤_, _<_}
+use mathlib.Core.Path.{_≡_}
+use mathlib.Core.Bool.{false}
+use mathlib.Core.List.{List, List·Memᴰ}
+use lib.ListN.{length, take}
+use lib.Ieee.{Float}
+use Rattle.sequence.specs.Sequence.{at}
+use Rattle.best.specs.ChiSquare.{exact, AllTame, parts}
+use Rattle.best.specs.Trials.{tried}
+use Rattle.solver.specs.declared.Fit.{Fit}
+use Rattle.solver.specs.declared.Fit.the-variants.{Done, Refused}
+use Rattle.solver.specs.declared.IterOptions.{IterOptions}
+use Rattle.validate.specs.Call.{Lent}
+use Rattle.design.specs.Design.{isFree}
+use Rattle.lm_system.specs.System.{hour, dec}
+use Rattle.iterated.specs.Iterated.{under, trials, begin}
+
+-- the sets tried: the start as lent, what each trial proposes, kept or rejected, and what the undamped trial proposes
+abbrev pub triedSets : Lent → IterOptions → List (List Float)
+triedSets l o = tried (trials l o) (o .«max_iter») (begin l o)
+
+-- the exact chi-square of a set, in units of 2 ^ -2148; and that each of its weighted residuals is zero or of a size from 2 ^ -400 to 2 ^ 400
+abbrev pub exactAt : Lent → List Float → ℕ
+exactAt l s = exact (hour (under l s)) (dec (under l s)) (length (l .dh))
+
+abbrev pub TameAt : Lent → List Float → Type 0
+TameAt l s = AllTame (hour (under l s)) (dec (under l s)) (length (l .dh))
+
+-- the set s is returned, after so many iterations
+pub record BestOfTried (l : Lent) (o : IterOptions) (s : List Float) (iterations : ℕ) : Type 0 where
+  pub listed : List·Memᴰ s (triedSets l o)
+  pub best : (other : List Float) → List·Memᴰ other (triedSets l o) → TameAt l other → TameAt l s
+      → parts * exactAt l s ≤ (parts + 1) * exactAt l other
+  pub kept : (j : ℕ) → j < length (l .coefficients) → isFree (l .fixed) j ≡ false → at s j ≡ at (l .coefficients) j
+  pub counted : iterations + 2 ≡ length (triedSets l o)
+  pub limited : iterations ≤ o .«max_iter»
+
+-- of a call: its answer, and what the answer's coefficients hold at the end, m of which are the set
+abbrev pub Demand3 : Lent → IterOptions → Fit → List Float → Type 0
+Demand3 l o (Done r) out = BestOfTried l o (take (length (l .coefficients)) out) (r .«iter_report» .iterations)
+Demand3 l o (Refused k) out = Unit {0}
