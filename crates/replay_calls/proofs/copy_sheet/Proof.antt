@@ -3,8 +3,8 @@ use Prim.Native.Nat.{_≤_, _-_}
 use mathlib.Core.Path.{_≡_, refl}
 use lib.ListN.{length, length-set}
 use native.Mathlib.Omega.{arith}
-use Rattle.replay_fit.proofs.copy_sheet.Statement.{statement}
-use Rattle.replay_fit.proofs.copy_sheet.Tie as tie
+use Rattle.replay_calls.proofs.copy_sheet.Statement.{statement}
+use Rattle.replay_calls.proofs.copy_sheet.Tie as tie
 
 abbrev Inv-loop : tie.InvT-loop
 Inv-loop pool k s₀ a i₀ s i = (i ≤ 37) × (length s ≡ length s₀)

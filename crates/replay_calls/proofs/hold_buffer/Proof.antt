@@ -2,8 +2,8 @@
 use mathlib.Core.Path.{sym}
 use lib.Seq.{length-take-le}
 use borrow.Author.Needs.{needs}
-use Rattle.replay_fit.proofs.hold_buffer.Statement.{statement}
-use Rattle.replay_fit.proofs.hold_buffer.Tie as tie
+use Rattle.replay_calls.proofs.hold_buffer.Statement.{statement}
+use Rattle.replay_calls.proofs.hold_buffer.Tie as tie
 
 returns : tie.Need-returns
 returns c = search needs

@@ -5,8 +5,8 @@ use mathlib.Core.Path.{sym}
 use lib.Seq.{length-take-le}
 use borrow.Author.Needs.{needs}
 use native.Mathlib.Omega.{arith}
-use Rattle.replay_fit.proofs.cleared.Statement.{statement}
-use Rattle.replay_fit.proofs.cleared.Tie as tie
+use Rattle.replay_calls.proofs.cleared.Statement.{statement}
+use Rattle.replay_calls.proofs.cleared.Tie as tie
 
 area : (m n : ℕ) → m ≤ 40 → n ≤ 1100 → (4 * n + 3 * m) * m ≤ 4520 * 40
 area m n p q = mul-le-mul {n₂ = 4520} {m₂ = 40} (omega arith) p

@@ -2,8 +2,8 @@
 use mathlib.Core.Path.{sym}
 use lib.Seq.{length-take-le}
 use borrow.Author.Needs.{needs}
-use Rattle.replay_fit.proofs.lend.Statement.{statement}
-use Rattle.replay_fit.proofs.lend.Tie as tie
+use Rattle.replay_calls.proofs.lend.Statement.{statement}
+use Rattle.replay_calls.proofs.lend.Tie as tie
 
 term-room-requires : tie.Need-term-room-requires
 term-room-requires c κs = search needs

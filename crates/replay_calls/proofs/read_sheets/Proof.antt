@@ -4,8 +4,8 @@ use mathlib.Core.Path.{_≡_, refl}
 use lib.ListN.{length, length-take, length-drop}
 use borrow.Author.Needs.{needs}
 use native.Mathlib.Omega.{arith}
-use Rattle.replay_fit.proofs.read_sheets.Statement.{statement}
-use Rattle.replay_fit.proofs.read_sheets.Tie as tie
+use Rattle.replay_calls.proofs.read_sheets.Statement.{statement}
+use Rattle.replay_calls.proofs.read_sheets.Tie as tie
 
 abbrev Inv-loop : tie.InvT-loop
 Inv-loop pool sheets₀ count i₀ sheets i = (i ≤ count) × (length sheets ≡ length sheets₀)

@@ -3,8 +3,8 @@ use Prim.Native.Nat.{_≤_, _-_}
 use mathlib.Core.Path.{_≡_, refl}
 use lib.ListN.{length}
 use native.Mathlib.Omega.{arith}
-use Rattle.replay_fit.proofs.all_are.Statement.{statement}
-use Rattle.replay_fit.proofs.all_are.Tie as tie
+use Rattle.replay_calls.proofs.all_are.Statement.{statement}
+use Rattle.replay_calls.proofs.all_are.Tie as tie
 
 abbrev Inv-loop : tie.InvT-loop
 Inv-loop s x i₀ i-end i = (i-end ≡ length s) × (i ≤ i-end)

@@ -2,8 +2,8 @@
 use mathlib.Core.Path.{_≡_, refl}
 use lib.ListN.{length}
 use native.Mathlib.Omega.{arith}
-use Rattle.replay_fit.proofs.records.Statement.{statement}
-use Rattle.replay_fit.proofs.records.Tie as tie
+use Rattle.replay_calls.proofs.records.Statement.{statement}
+use Rattle.replay_calls.proofs.records.Tie as tie
 
 abbrev Inv-loop : tie.InvT-loop
 Inv-loop pool bytes₀ numbers₀ t₀ more₀ turns₀ bytes numbers t more turns = (length bytes ≡ length bytes₀) × (length numbers ≡ length numbers₀)
@@ -26,9 +26,6 @@ loop-less c = omega arith
 loop-again : tie.Need-loop-again Inv-loop μ-loop
 loop-again c = omega arith
 
-report-requires : tie.Need-report-requires Inv-loop μ-loop
-report-requires c κs = tt
-
 same-length : tie.Need-same-length Inv-loop μ-loop
 same-length c = omega arith
 
@@ -37,6 +34,15 @@ same-length-2 c = omega arith
 
 returns : tie.Need-returns Inv-loop μ-loop
 returns c = tt
+
+same-length-3 : tie.Need-same-length-3 Inv-loop μ-loop
+same-length-3 c = omega arith
+
+same-length-4 : tie.Need-same-length-4 Inv-loop μ-loop
+same-length-4 c = omega arith
+
+returns-2 : tie.Need-returns-2 Inv-loop μ-loop
+returns-2 c = tt
 
 pub records-spec : {M : Type 1} → statement M
 records-spec =
@@ -49,7 +55,9 @@ records-spec =
     sub-turns
     loop-less
     loop-again
-    report-requires
     same-length
     same-length-2
-    returns)
+    returns
+    same-length-3
+    same-length-4
+    returns-2)

@@ -1,0 +1,653 @@
+// Replays the oracle's fits. Standard input holds a pool of sheets and then calls, each with what the Rust made of it (oracle/README.md
+// has the format); whole answers, the buffers' tails, refused buffers and the cleared scratch are held against it.
+
+ghost use mathlib.Core.Path.{_≡_};
+ghost use Prim.Native.Nat.{_+_, _*_, _<_, _≤_};
+ghost use lib.ListN.{length};
+use replay::Held;
+use replay::hold;
+use replay::hold_all;
+use replay::read_doubles;
+use solver::Fit;
+use solver::FitResult;
+use solver::IterOptions;
+
+struct Tally {
+    fits: u64,
+    done: u64,
+    refused: [u64; 16],
+    deficient: u64,
+    not_numbers: u64,
+    converged: u64,
+    robust: u64,
+    different: u64,
+}
+
+// How much is lent, and how many places the buffers have.
+struct Sizes {
+    m: usize,
+    n: usize,
+    names: usize,
+    fixed: usize,
+    dd: usize,
+    pier: usize,
+    sheets: usize,
+    coefficients: usize,
+    change: usize,
+    sigma: usize,
+    diagnostics: usize,
+    scratch: usize,
+}
+
+// Which fit is called, and what is lent to it beside the slices.
+struct Scalars {
+    mode: u8,
+    sin_lat: f64,
+    cos_lat: f64,
+    fit_tol: f64,
+    options: IterOptions,
+}
+
+// The modes; any other is iterated and not robust.
+const SINGLE: u8 = 0;
+
+const ROBUST: u8 = 3;
+
+// A number of standard input below 65,536, cut to a limit.
+fn small(limit: usize) -> usize
+    ensures { λ r. ⌜ r ≤ limit ⌝ }
+{
+    let mut b = [0u8; 2];
+    replay::next(&mut b);
+    let x = little_endian::u16_at(&b, 0) as usize;
+    if x <= limit { x } else { limit }
+}
+
+// The same of four bytes.
+fn large(limit: usize) -> usize
+    ensures { λ r. ⌜ r ≤ limit ⌝ }
+{
+    let low = small(65535);
+    let high = small(65535);
+    let x = low + 65536 * high;
+    if x <= limit { x } else { limit }
+}
+
+// The numbers of a call's head, after its mode.
+fn read_sizes() -> Sizes
+    ensures { λ r. ⌜ (r .m ≤ 40) × (r .n ≤ 1100) × (r .names ≤ 700) × (r .fixed ≤ 64) × (r .dd ≤ 1200) × (r .pier ≤ 1200) × (r .sheets ≤ 41000) × (r .coefficients ≤ 64) × (r .change ≤ 64) × (r .sigma ≤ 64) × (r .diagnostics ≤ 3400) × (r .scratch ≤ 150000) ⌝ }
+{
+    let m = small(40);
+    let n = small(1100);
+    let names = small(700);
+    let fixed = small(64);
+    let dd = small(1200);
+    let pier = small(1200);
+    let sheets = large(41000);
+    let coefficients = small(64);
+    let change = small(64);
+    let sigma = small(64);
+    let diagnostics = small(3400);
+    let scratch = large(150000);
+    Sizes {
+        m,
+        n,
+        names,
+        fixed,
+        dd,
+        pier,
+        sheets,
+        coefficients,
+        change,
+        sigma,
+        diagnostics,
+        scratch,
+    }
+}
+
+// Sheet k of the pool, into a part of 37 numbers.
+fn copy_sheet(pool: &[f64], k: usize, s: &mut [f64])
+    requires { ⌜ (37 * k + 37 ≤ length (now pool)) × (length (now s) ≡ 37) ⌝ }
+{
+    let a = 37 * k;
+    for i in 0..37usize {
+        s[i] = pool[a + i];
+    }
+}
+
+// So many sheets one after the other, each by its place in the pool.
+fn read_sheets(pool: &[f64], sheets: &mut [f64], count: usize)
+    requires { ⌜ (37 * 400 ≤ length (now pool)) × (37 * count ≤ length (now sheets)) ⌝ }
+{
+    for i in 0..count {
+        let k = small(399);
+        let a = 37 * i;
+        copy_sheet(pool, k, &mut sheets[a..a + 37]);
+    }
+}
+
+// Whether each number of s is x.
+fn all_are(s: &[f64], x: f64) -> bool {
+    for i in 0..s.len() {
+        if s[i] != x {
+            return false;
+        }
+    }
+    true
+}
+
+// What the buffers hold before a call.
+const BEFORE: f64 = 7.25;
+
+// A buffer after an accepted fit: n numbers of the oracle's, and the rest as it was.
+fn hold_buffer(held: Held, s: &[f64], n: usize) -> Held {
+    if s.len() < n {
+        return Held {
+            same: false,
+            numbers: held.numbers,
+        };
+    }
+    let front = hold_all(held, &s[..n]);
+    let kept = all_are(&s[n..], BEFORE);
+    Held {
+        same: front.same && kept,
+        numbers: front.numbers,
+    }
+}
+
+// Scratch after an accepted fit: zeros where it was needed, and the rest as it was.
+fn cleared(s: &[f64], m: usize, n: usize) -> bool
+    requires { ⌜ (m ≤ 40) × (n ≤ 1100) ⌝ }
+{
+    let need = (4 * n + 3 * m) * m + 8 * n + 8 * m;
+    if s.len() < need {
+        return false;
+    }
+    let zeros = all_are(&s[..need], 0.0);
+    let kept = all_are(&s[need..], BEFORE);
+    zeros && kept
+}
+
+fn converged_code(converged: bool) -> u8 {
+    if converged { 1 } else { 0 }
+}
+
+// The record of an accepted fit.
+fn hold_result(held: Held, r: FitResult) -> Held {
+    let rank_info = r.rank_info;
+    let iter_report = r.iter_report;
+    let mut held = hold(held, r.sky_rms);
+    held = hold(held, r.popn_sd);
+    let n_free = replay::wide(replay::byte());
+    let rank = replay::wide(replay::byte());
+    held = hold(held, rank_info.sigma_max);
+    held = hold(held, rank_info.sigma_min);
+    held = hold(held, rank_info.tol);
+    let iterations = small(65535);
+    let converged = replay::byte();
+    held = hold(held, iter_report.final_lambda);
+    held = hold(held, iter_report.final_step_norm);
+    let counts = n_free == rank_info.n_free && rank == rank_info.rank;
+    let loops = iterations == iter_report.iterations
+        && converged == converged_code(iter_report.converged);
+    Held {
+        same: held.same && counts && loops,
+        numbers: held.numbers,
+    }
+}
+
+// The next n bytes of standard input, from a on.
+fn read_bytes(bytes: &mut [u8], a: usize, n: usize)
+    requires { ⌜ a + n ≤ length (now bytes) ⌝ }
+{
+    replay::next(&mut bytes[a..a + n]);
+}
+
+// The next n doubles of standard input, from a on.
+fn read_numbers(numbers: &mut [f64], a: usize, n: usize)
+    requires { ⌜ a + n ≤ length (now numbers) ⌝ }
+{
+    read_doubles(&mut numbers[a..a + n]);
+}
+
+// The lent sheets, from 2,560 on.
+fn read_all_sheets(pool: &[f64], numbers: &mut [f64], lent: usize)
+    requires { ⌜ (lent ≤ 41000) × (37 * 400 ≤ length (now pool)) × (43650 ≤ length (now numbers)) ⌝ }
+{
+    read_sheets(pool, &mut numbers[2560..], (lent + 36) / 37);
+}
+
+// The call's slices lie in two arrays: bytes (names from 0, flags from 1,024, pier codes from 2,048) and numbers (coefficients from 0,
+// hour-angle differences from 64, declination differences from 1,280, sheets from 2,560).
+fn read_input(s: Sizes, pool: &[f64], bytes: &mut [u8], numbers: &mut [f64])
+    requires { ⌜ (s .m ≤ 40) × (s .n ≤ 1100) × (s .names ≤ 700) × (s .fixed ≤ 64) × (s .dd ≤ 1200) × (s .pier ≤ 1200) × (s .sheets ≤ 41000) × (37 * 400 ≤ length (now pool)) × (4096 ≤ length (now bytes)) × (43650 ≤ length (now numbers)) ⌝ }
+{
+    read_bytes(bytes, 0, s.names);
+    read_bytes(bytes, 1024, s.fixed);
+    read_numbers(numbers, 0, s.m);
+    read_numbers(numbers, 64, s.n);
+    read_numbers(numbers, 1280, s.dd);
+    read_bytes(bytes, 2048, s.pier);
+    read_all_sheets(pool, numbers, s.sheets);
+}
+
+// Whether every buffer holds what it held.
+fn untouched(
+    out: &[f64],
+    change: &[f64],
+    sigma: &[f64],
+    diagnostics: &[f64],
+    scratch: &[f64],
+) -> bool {
+    let a = all_are(out, BEFORE);
+    let b = all_are(change, BEFORE);
+    let c = all_are(sigma, BEFORE);
+    let d = all_are(diagnostics, BEFORE);
+    let e = all_are(scratch, BEFORE);
+    a && b && c && d && e
+}
+
+// An accepted fit.
+fn hold_fit(
+    r: FitResult,
+    m: usize,
+    n: usize,
+    out: &[f64],
+    change: &[f64],
+    sigma: &[f64],
+    diagnostics: &[f64],
+    scratch: &[f64],
+) -> Held
+    requires { ⌜ (m ≤ 40) × (n ≤ 1100) ⌝ }
+{
+    let mut held = Held {
+        same: true,
+        numbers: true,
+    };
+    held = hold_buffer(held, out, m);
+    held = hold_buffer(held, change, m);
+    held = hold_buffer(held, sigma, m);
+    held = hold_buffer(held, diagnostics, 3 * n);
+    held = hold_result(held, r);
+    let zeros = cleared(scratch, m, n);
+    Held {
+        same: held.same && zeros,
+        numbers: held.numbers,
+    }
+}
+
+fn count_done(mut t: Tally, mode: u8, r: FitResult, held: Held, expected: u8) -> Tally {
+    let rank_info = r.rank_info;
+    let iter_report = r.iter_report;
+    t.done = replay::more(t.done);
+    if iter_report.converged {
+        t.converged = replay::more(t.converged);
+    }
+    if mode == ROBUST {
+        t.robust = replay::more(t.robust);
+    }
+    if rank_info.is_deficient() {
+        t.deficient = replay::more(t.deficient);
+    }
+    if !held.numbers {
+        t.not_numbers = replay::more(t.not_numbers);
+    }
+    if !held.same || expected != 0 {
+        t.different = replay::more(t.different);
+    }
+    t
+}
+
+fn count_refused(mut t: Tally, no: u8, kept: bool, expected: u8) -> Tally {
+    let k = (no % 16) as usize;
+    t.refused[k] = replay::more(t.refused[k]);
+    if !kept || expected != no {
+        t.different = replay::more(t.different);
+    }
+    t
+}
+
+// The call by its mode.
+fn by_mode(
+    p: Scalars,
+    names: &[u8],
+    fixed: &[u8],
+    coefficients: &[f64],
+    dh: &[f64],
+    dd: &[f64],
+    pier: &[u8],
+    sheets: &[f64],
+    out: &mut [f64],
+    change: &mut [f64],
+    sigma: &mut [f64],
+    diagnostics: &mut [f64],
+    scratch: &mut [f64],
+) -> Fit {
+    if p.mode == SINGLE {
+        return single_step::fit_model(
+            names,
+            fixed,
+            coefficients,
+            dh,
+            dd,
+            pier,
+            sheets,
+            p.sin_lat,
+            p.cos_lat,
+            p.fit_tol,
+            out,
+            change,
+            sigma,
+            diagnostics,
+            scratch,
+        );
+    }
+    iterated::fit_model_iterated(
+        names,
+        fixed,
+        coefficients,
+        dh,
+        dd,
+        pier,
+        sheets,
+        p.sin_lat,
+        p.cos_lat,
+        p.fit_tol,
+        p.options,
+        out,
+        change,
+        sigma,
+        diagnostics,
+        scratch,
+    )
+}
+
+// The call, its slices cut from the two arrays.
+fn fit(
+    s: Sizes,
+    p: Scalars,
+    bytes: &[u8],
+    numbers: &[f64],
+    out: &mut [f64],
+    change: &mut [f64],
+    sigma: &mut [f64],
+    diagnostics: &mut [f64],
+    scratch: &mut [f64],
+) -> Fit
+    requires { ⌜ (s .m ≤ 40) × (s .n ≤ 1100) × (s .names ≤ 700) × (s .fixed ≤ 64) × (s .dd ≤ 1200) × (s .pier ≤ 1200) × (s .sheets ≤ 41000) × (4096 ≤ length (now bytes)) × (43650 ≤ length (now numbers)) ⌝ }
+{
+    let zero = 0usize;
+    let names = s.names;
+    let fixed = s.fixed;
+    let pier = s.pier;
+    let m = s.m;
+    let n = s.n;
+    let dd = s.dd;
+    let sheets = s.sheets;
+    by_mode(
+        p,
+        &bytes[zero..names],
+        &bytes[1024..1024 + fixed],
+        &numbers[zero..m],
+        &numbers[64..64 + n],
+        &numbers[1280..1280 + dd],
+        &bytes[2048..2048 + pier],
+        &numbers[2560..2560 + sheets],
+        out,
+        change,
+        sigma,
+        diagnostics,
+        scratch,
+    )
+}
+
+// Its answer and its buffers, against the oracle's.
+fn judge(
+    mut t: Tally,
+    mode: u8,
+    m: usize,
+    n: usize,
+    fit: Fit,
+    out: &[f64],
+    change: &[f64],
+    sigma: &[f64],
+    diagnostics: &[f64],
+    scratch: &[f64],
+) -> Tally
+    requires { ⌜ (m ≤ 40) × (n ≤ 1100) ⌝ }
+{
+    t.fits = replay::more(t.fits);
+    let expected = replay::byte();
+    match fit {
+        Fit::Refused(no) => {
+            let kept = untouched(out, change, sigma, diagnostics, scratch);
+            count_refused(t, no, kept, expected)
+        }
+        Fit::Done(r) => {
+            let held = hold_fit(r, m, n, out, change, sigma, diagnostics, scratch);
+            count_done(t, mode, r, held, expected)
+        }
+    }
+}
+
+// One call, lent these buffers.
+fn call(
+    t: Tally,
+    s: Sizes,
+    p: Scalars,
+    bytes: &[u8],
+    numbers: &[f64],
+    out: &mut [f64],
+    change: &mut [f64],
+    sigma: &mut [f64],
+    diagnostics: &mut [f64],
+    scratch: &mut [f64],
+) -> Tally
+    requires { ⌜ (s .m ≤ 40) × (s .n ≤ 1100) × (s .names ≤ 700) × (s .fixed ≤ 64) × (s .dd ≤ 1200) × (s .pier ≤ 1200) × (s .sheets ≤ 41000) × (4096 ≤ length (now bytes)) × (43650 ≤ length (now numbers)) ⌝ }
+{
+    let answer = fit(
+        s,
+        p,
+        bytes,
+        numbers,
+        out,
+        change,
+        sigma,
+        diagnostics,
+        scratch,
+    );
+    judge(
+        t,
+        p.mode,
+        s.m,
+        s.n,
+        answer,
+        out,
+        change,
+        sigma,
+        diagnostics,
+        scratch,
+    )
+}
+
+// The numbers of the options, which are read in every mode.
+fn read_options(robust: bool) -> IterOptions {
+    let tol_rad = replay::double();
+    let initial_lambda = replay::double();
+    let lambda_up = replay::double();
+    let lambda_down = replay::double();
+    let huber_k = replay::double();
+    let max_iter = small(65535);
+    IterOptions {
+        max_iter,
+        tol_rad,
+        initial_lambda,
+        lambda_up,
+        lambda_down,
+        robust,
+        huber_k,
+    }
+}
+
+// What stands behind the slices.
+fn read_scalars(mode: u8) -> Scalars {
+    let sin_lat = replay::double();
+    let cos_lat = replay::double();
+    let fit_tol = replay::double();
+    let options = read_options(mode == ROBUST);
+    Scalars {
+        mode,
+        sin_lat,
+        cos_lat,
+        fit_tol,
+        options,
+    }
+}
+
+fn term_room() -> [f64; 64]
+    ensures { λ r. ⌜ 64 ≡ length r ⌝ }
+{
+    [BEFORE; 64]
+}
+
+fn star_room() -> [f64; 3400]
+    ensures { λ r. ⌜ 3400 ≡ length r ⌝ }
+{
+    [BEFORE; 3400]
+}
+
+fn scratch_room() -> [f64; 150000]
+    ensures { λ r. ⌜ 150000 ≡ length r ⌝ }
+{
+    [BEFORE; 150000]
+}
+
+// The call with buffers of the places that its head gives.
+fn lend(t: Tally, s: Sizes, p: Scalars, bytes: &[u8], numbers: &[f64]) -> Tally
+    requires { ⌜ (s .m ≤ 40) × (s .n ≤ 1100) × (s .names ≤ 700) × (s .fixed ≤ 64) × (s .dd ≤ 1200) × (s .pier ≤ 1200) × (s .sheets ≤ 41000) × (s .coefficients ≤ 64) × (s .change ≤ 64) × (s .sigma ≤ 64) × (s .diagnostics ≤ 3400) × (s .scratch ≤ 150000) × (4096 ≤ length (now bytes)) × (43650 ≤ length (now numbers)) ⌝ }
+{
+    let mut out = term_room();
+    let mut change = term_room();
+    let mut sigma = term_room();
+    let mut diagnostics = star_room();
+    let mut scratch = scratch_room();
+    let a = s.coefficients;
+    let b = s.change;
+    let c = s.sigma;
+    let d = s.diagnostics;
+    let e = s.scratch;
+    call(
+        t,
+        s,
+        p,
+        bytes,
+        numbers,
+        &mut out[..a],
+        &mut change[..b],
+        &mut sigma[..c],
+        &mut diagnostics[..d],
+        &mut scratch[..e],
+    )
+}
+
+struct Step {
+    more: bool,
+    tally: Tally,
+}
+
+// One record.
+fn record(t: Tally, pool: &[f64], bytes: &mut [u8], numbers: &mut [f64]) -> Step
+    requires { ⌜ (37 * 400 ≤ length (now pool)) × (4096 ≤ length (now bytes)) × (43650 ≤ length (now numbers)) ⌝ }
+{
+    let mut mode = [0u8; 1];
+    if !replay::next(&mut mode) {
+        return Step {
+            more: false,
+            tally: t,
+        };
+    }
+    let s = read_sizes();
+    read_input(s, pool, bytes, numbers);
+    let p = read_scalars(mode[0]);
+    let tally = lend(t, s, p, bytes, numbers);
+    Step { more: true, tally }
+}
+
+// How often each question refused. A single step isn't asked question 6, about the options.
+fn report_refused(refused: [u64; 16], iterated: bool) {
+    for k in 1..14usize {
+        if k != 6 || iterated {
+            replay::refused(k as u64, refused[k]);
+        }
+    }
+}
+
+// All counts. A single step has no loop that may converge, and isn't robust.
+fn report(t: Tally, iterated: bool) {
+    let refused = t.refused;
+    replay::line(b"fits", t.fits);
+    replay::line(b"done", t.done);
+    report_refused(refused, iterated);
+    replay::line(b"deficient", t.deficient);
+    replay::line(b"not numbers", t.not_numbers);
+    if iterated {
+        replay::line(b"converged", t.converged);
+        replay::line(b"robust", t.robust);
+    }
+    replay::line(b"different", t.different);
+}
+
+// All records.
+fn records(pool: &[f64], bytes: &mut [u8], numbers: &mut [f64]) -> Tally
+    requires { ⌜ (37 * 400 ≤ length (now pool)) × (4096 ≤ length (now bytes)) × (43650 ≤ length (now numbers)) ⌝ }
+{
+    let mut t = Tally {
+        fits: 0,
+        done: 0,
+        refused: [0; 16],
+        deficient: 0,
+        not_numbers: 0,
+        converged: 0,
+        robust: 0,
+        different: 0,
+    };
+    let mut more = true;
+    let mut turns = u64::MAX;
+    while turns > 0 && more {
+        let s = record(t, pool, bytes, numbers);
+        t = s.tally;
+        more = s.more;
+        turns -= 1;
+    }
+    t
+}
+
+// The pool of sheets, then all records.
+fn run(pool: &mut [f64], bytes: &mut [u8], numbers: &mut [f64]) -> Tally
+    requires { ⌜ (37 * 400 ≤ length (now pool)) × (4096 ≤ length (now bytes)) × (43650 ≤ length (now numbers)) ⌝ }
+{
+    let n = small(400);
+    read_numbers(pool, 0, 37 * n);
+    records(pool, bytes, numbers)
+}
+
+fn pool_room() -> [f64; 14800]
+    ensures { λ r. ⌜ 14800 ≡ length r ⌝ }
+{
+    [0.0; 14800]
+}
+
+fn number_room() -> [f64; 43650]
+    ensures { λ r. ⌜ 43650 ≡ length r ⌝ }
+{
+    [0.0; 43650]
+}
+
+// Replays standard input and prints the counts: those of a single step, or those of an iterated fit.
+pub fn replay(iterated: bool) {
+    let mut pool = pool_room();
+    let mut bytes = io::buffer();
+    let mut numbers = number_room();
+    let t = run(&mut pool, &mut bytes, &mut numbers);
+    report(t, iterated);
+}
