@@ -3,10 +3,11 @@
 use Prim.Native.Nat.{ℕ, zero, suc, _+_, _*_}
 use Prim.Native.String.{String}
 use mathlib.Core.Path.{_≡_, refl}
+use mathlib.Core.Bool.{Bool, false}
 use mathlib.Core.List.{List, [], _∷_, _++_, map}
 use mathlib.Core.List.{zipWith}
 use lib.ListN.{length, replicate}
-use lib.Ieee.{Float, binary64, ofBits, ofInt, neg, add, sub, mul, div, lt, le, eq}
+use lib.Ieee.{Float, inf, binary64, ofBits, ofInt, neg, add, sub, mul, div, lt, le, eq}
 use Rattle.float.specs.Float.{#0, #1, #2, abs, isFinite}
 use Rattle.sequence.specs.Sequence.{at, table, filled, each, sumTo, sumBut, dot}
 use Rattle.sqrt.specs.Sqrt as Root
@@ -29,23 +30,35 @@ use Rattle.terms.specs.declared.answer.Jacobian.the-variants.{Given}
 use Rattle.jacobi.specs.Jacobi.{zetaOf, tanOf, cosOf, turn, pair, row, sweep, sweeps}
 use Rattle.column.specs.Column.{norm, norms, scaleOf, scaledColumn, unitColumn, columns, diagonal, diagonals, extended}
 use Rattle.order.specs.Order.{best, order}
-use Rattle.linalg.specs.Linalg.{decomposed, threshold, inverse, inverses, rankTo, projected, xScaled, solution, scaledVariance, covariance, leverageOf, answered, solved}
+use Rattle.linalg.specs.Linalg.{decomposed, threshold, inverse, inverses, rankTo, projected, xScaled, solution, scaledVariance, covariance, leverageOf, answered, solved, solvedDamped}
 use Rattle.solver.specs.declared.Fit.{Fit}
 use Rattle.solver.specs.declared.Fit.the-variants.{Done, Refused}
 use Rattle.design.specs.Design as Design
-use Rattle.design.specs.Design.{stars, column, skyColumn, differences, skyDifferences, freeBefore, ofFree, subtractAll, product, freeProduct, laid}
+use Rattle.design.specs.Design.{stars, column, skyColumn, differences, skyDifferences, freeBefore, ofFree, subtractAll, product, predicted, freeProduct, weighing, laid}
+use Rattle.design.specs.Filled.{rowsTo, skyRows}
 use Rattle.validate.specs.Call.{Lent, Buffers, lent, buffers}
 use Rattle.validate.specs.Questions.{limits, counts, scratchNeeded, room, finiteInput, finiteOptions, codesKnown, namesNo, asked}
 use Rattle.stats.specs.Stats.{sumSqSky, skyRms, popnSd, variance, sigmaAt, deviation, clamped, studentizedRow, diagnostic}
-use Rattle.single_step.specs.SingleStep.{Outcome, toFit, step, change, newCoefficients, freeResiduals, residuals, sigma, diagnosticOf, result, threes, fitted, fitOutcome}
+use Rattle.solver.specs.Records.{defaults}
+use Rattle.solver.specs.declared.IterOptions.{IterOptions}
+use Rattle.best.specs.ChiSquare.{chi}
+use Rattle.best.specs.Trials.{after}
+use Rattle.outcome.specs.Outcome.{Outcome, sigmaOf, diagnosticOf, threes, resultOf, finished}
+use Rattle.single_step.specs.SingleStep.{toFit, step, change, newCoefficients, freeResiduals, residuals, fitted, fitOutcome}
+use Rattle.lm_system.specs.System as System
+use Rattle.lm_system.specs.System.{chi2Of, skyResiduals, huberFrom, lmStep, moved}
+use Rattle.iterated.specs.Iterated as Iterated
+use Rattle.iterated.specs.Iterated.{lmLoop, lastSet, iteratedOutcome}
 
--- an answer of a public call: of a fit the coefficients and the rank, or the coefficients, the sky RMS and each star's leverage
+-- an answer of a public call: of a fit the coefficients and the rank, or the coefficients, the sky RMS and each star's leverage, or the
+-- coefficients, the iterations, whether it converged, and the step norm
 pub data Answer : Type 0 where
   reading : Reading → Answer
   jacobian : Jacobian → Answer
   refusal : ℕ → Answer
   ranked : List Float → ℕ → Answer
   measured : List Float → Float → List Float → Answer
+  looped : List Float → ℕ → Bool → Float → Answer
 
 pub record Row : Type 0 where
   pub got : Answer
@@ -135,6 +148,27 @@ measuredBy (Refused k) cs ls = refusal k
 abbrev pub fileCase : Row
 fileCase = let o = stepped (neg #10 ∷ []) in record { got = rankedBy (o .answer) (o .left .coefficients); wanted = ranked (#10 ∷ []) 1 }
 
+-- the file case iterated, with the default options but for a limit of 0
+abbrev pub atOnce : IterOptions
+atOnce = record {
+  «max_iter» = 0;
+  «tol_rad» = defaults .«tol_rad»;
+  «initial_lambda» = defaults .«initial_lambda»;
+  «lambda_up» = defaults .«lambda_up»;
+  «lambda_down» = defaults .«lambda_down»;
+  robust = false;
+  «huber_k» = defaults .«huber_k»;
+}
+
+abbrev pub loopedBy : Fit → List Float → Answer
+loopedBy (Done r) cs = looped cs (r .«iter_report» .iterations) (r .«iter_report» .converged) (r .«iter_report» .«final_step_norm»)
+loopedBy (Refused k) cs = refusal k
+
+abbrev pub fileCaseIterated : Row
+fileCaseIterated =
+    let o = iteratedOutcome (run (neg #10 ∷ [])) atOnce (exact 1) in
+    record { got = loopedBy (o .answer) (o .left .coefficients); wanted = looped (#10 ∷ []) 0 false (inf false) }
+
 -- the second of each star's three diagnostics
 abbrev pub leverages : ℕ → List Float → List Float
 leverages n d = table n (λ i. at d (3 * i + 1))
@@ -161,6 +195,7 @@ rows =
     slopes "CH" half west (pairOf #2 #0) ∷
     slopes "IH" #1 east (pairOf (neg #1) #0) ∷
     fileCase ∷
+    fileCaseIterated ∷
     reads "HXSHCD2"
     (accepted (Harmonic ResultType.X) (ascii "HXSHCD2") (arrayOf (component TrigFunc.Sin Coordinate.H 1 ∷ component TrigFunc.Cos Coordinate.D 2 ∷ []))) ∷
     slopes "TX2" #1 east (pairOf #0 #0) ∷
@@ -168,5 +203,5 @@ rows =
     []
 
 pub starred : map (λ (r : Row). r .got) rows ≡ map (λ (r : Row). r .wanted) rows
-unfolding nameOf wellFormed digitsFrom unsigned components parseHarmonic readHarmonic byKnown readTerm jacobianOf pointOf isFinite abs neg add sub mul div lt le eq ofBits ofInt Root.sqrt table filled each sumTo sumBut dot zipWith fitOutcome asked limits counts scratchNeeded room finiteInput finiteOptions codesKnown namesNo fitted result step toFit change newCoefficients freeResiduals residuals sigma diagnosticOf threes stars Design.rows column skyColumn differences skyDifferences freeBefore ofFree subtractAll product freeProduct laid sumSqSky skyRms popnSd variance sigmaAt deviation clamped studentizedRow diagnostic solved answered decomposed norms norm scaleOf scaledColumn unitColumn columns diagonal diagonals extended inverses inverse rankTo projected xScaled solution scaledVariance covariance leverageOf threshold order best sweeps sweep row pair turn zetaOf tanOf cosOf
+unfolding nameOf wellFormed digitsFrom unsigned components parseHarmonic readHarmonic byKnown readTerm jacobianOf pointOf isFinite abs neg add sub mul div lt le eq ofBits ofInt Root.sqrt table filled each sumTo sumBut dot zipWith fitOutcome asked limits counts scratchNeeded room finiteInput finiteOptions codesKnown namesNo fitted finished resultOf step toFit change newCoefficients freeResiduals residuals sigmaOf diagnosticOf threes stars Design.rows column skyColumn differences skyDifferences freeBefore ofFree subtractAll product freeProduct laid sumSqSky skyRms popnSd variance sigmaAt deviation clamped studentizedRow diagnostic solved answered decomposed norms norm scaleOf scaledColumn unitColumn columns diagonal diagonals extended inverses inverse rankTo projected xScaled solution scaledVariance covariance leverageOf threshold order best sweeps sweep row pair turn zetaOf tanOf cosOf iteratedOutcome Iterated.fitted lmLoop after lastSet Iterated.freeResiduals Iterated.change chi2Of chi System.residuals skyResiduals huberFrom lmStep moved solvedDamped predicted weighing skyRows rowsTo
 starred = refl
