@@ -1,0 +1,47 @@
+-- `listing::put_floats` meets its contract. Assumes nothing.
+use native.Mathlib.Omega.{arith}
+use Rattle.listing.specs.Listing.{floats}
+use Rattle.listing.proofs.Writes.{wrote-then}
+use borrow.Author.Needs.{needs}
+use Rattle.listing.proofs.put_floats.Statement.{statement}
+use Rattle.listing.proofs.put_floats.Tie as tie
+
+put-byte-requires : tie.Need-put-byte-requires
+put-byte-requires c κs = search needs
+
+put-bits-requires : tie.Need-put-bits-requires
+put-bits-requires c κs = search needs
+
+put-byte-requires-2 : tie.Need-put-byte-requires-2
+put-byte-requires-2 c κs = search needs
+
+put-bits-requires-2 : tie.Need-put-bits-requires-2
+put-bits-requires-2 c κs = search needs
+
+put-byte-requires-3 : tie.Need-put-byte-requires-3
+put-byte-requires-3 c κs = search needs
+
+same-length : tie.Need-same-length
+same-length c = search needs
+
+returns : tie.Need-returns
+unfolding floats
+returns c =
+    let e = c .before .before in
+    let d = e .before .before .before .before in
+    let x = d .before .before .before .before in
+    let b = x .before .before .before .before in
+    let a = b .before .before .before .before in
+    (wrote-then (wrote-then (wrote-then (wrote-then (a .put-byte .ensures) (b .put-bits .ensures .0)) (x .put-byte2 .ensures)) (d .put-bits2 .ensures .0)) (e .put-byte3 .ensures), omega arith)
+
+pub put-floats-spec : {M : Type 1} → statement M
+put-floats-spec =
+    tie.close
+    (tie.spec
+    put-byte-requires
+    put-bits-requires
+    put-byte-requires-2
+    put-bits-requires-2
+    put-byte-requires-3
+    same-length
+    returns)

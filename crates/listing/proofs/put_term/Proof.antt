@@ -1,0 +1,34 @@
+-- `listing::put_term` meets its contract. Assumes nothing.
+use native.Mathlib.Omega.{arith}
+use mathlib.Core.Path.{ap}
+use Rattle.terms.specs.Names.{nameOf}
+use Rattle.terms.specs.declared.Reading.{Reading}
+use Rattle.listing.specs.Listing.{termLine}
+use Rattle.listing.proofs.Writes.{wrote-then}
+use borrow.Author.Needs.{needs}
+use Rattle.listing.proofs.put_term.Statement.{statement}
+use Rattle.listing.proofs.put_term.Tie as tie
+
+read-term-requires : tie.Need-read-term-requires
+read-term-requires c κs = search needs
+
+put-name-requires : tie.Need-put-name-requires
+put-name-requires c κs = search needs
+
+put-floats-requires : tie.Need-put-floats-requires
+put-floats-requires c κs = search needs
+
+same-length : tie.Need-same-length
+same-length c = search needs
+
+returns : tie.Need-returns
+unfolding termLine
+returns c =
+    let n = c .before .before .before .before .before .before in
+    let e = ap (λ (r : Reading). nameOf (r .term .name)) (n .before .before .before .before .read-term .ensures) in
+    (rw (← e) (wrote-then (n .put-name .ensures .0) (c .before .before .put-floats .ensures .0)), omega arith)
+
+pub put-term-spec : {M : Type 1} → statement M
+put-term-spec =
+    tie.close
+    (tie.spec read-term-requires put-name-requires put-floats-requires same-length returns)

@@ -1,0 +1,41 @@
+-- The lines that the file program prints of a fit (document 01). Definitions only.
+use Prim.Native.Nat.{ℕ, _*_}
+use mathlib.Core.Bool.{cond}
+use mathlib.Core.List.{List, _++_}
+use lib.Ieee.{Float}
+use Rattle.sequence.specs.Sequence.{at, part}
+use Rattle.harmonic.specs.Table.{ascii}
+use Rattle.terms.specs.Names.{nameOf, readTerm}
+use Rattle.solver.specs.declared.FitResult.{FitResult}
+use Rattle.listing.specs.Text.{spaced, bitsOf, newline, texts}
+
+-- free, rank, iterations, converged
+unfoldable pub countsLine : FitResult → List ℕ
+countsLine r =
+    ascii "fit" ++ spaced (r .«rank_info» .«n_free») ++ spaced (r .«rank_info» .rank) ++ spaced (r .«iter_report» .iterations)
+    ++ (cond (r .«iter_report» .converged) (ascii " yes") (ascii " no") ++ newline)
+
+-- two floats behind a name, to the end of the line
+unfoldable pub floats : Float → Float → List ℕ
+floats x y = ascii " " ++ bitsOf x ++ ascii " " ++ bitsOf y ++ newline
+
+-- the name that the term of a slot is stored by, its coefficient and its sigma
+unfoldable pub termLine : List ℕ → Float → Float → List ℕ
+termLine slot coefficient sigma = nameOf (readTerm slot .term .name) ++ floats coefficient sigma
+
+unfoldable pub termLines : List ℕ → ℕ → List Float → List Float → List ℕ
+termLines names m coefficients sigma = texts m (λ j. termLine (part names (16 * j) 16) (at coefficients j) (at sigma j))
+
+unfoldable pub skyLine : FitResult → List ℕ
+skyLine r = ascii "sky" ++ floats (r .«sky_rms») (r .«popn_sd»)
+
+unfoldable pub fitText : List ℕ → ℕ → List Float → List Float → FitResult → List ℕ
+fitText names m coefficients sigma r = countsLine r ++ termLines names m coefficients sigma ++ skyLine r
+
+unfoldable pub refusalText : ℕ → List ℕ
+refusalText number = ascii "no" ++ spaced number ++ newline
+
+-- Room for any listing of 16 terms. A count has at most 20 digits and a name at most 16 bytes, so that the first line has at most 71 bytes,
+-- a term's line 51 and the last 38.
+abbrev pub listingRoom : ℕ
+listingRoom = 925

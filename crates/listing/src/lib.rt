@@ -1,0 +1,183 @@
+// The lines that the file program prints, written one after the other into a lent buffer. Each function takes the place where it
+// writes and hands back the place behind what it wrote.
+
+ghost use mathlib.Core.Path.{_≡_};
+ghost use mathlib.Core.List.{[], _∷_};
+ghost use Prim.Native.Nat.{_+_, _*_, _≤_, _<_};
+ghost use lib.ListN.{length};
+ghost use Rattle.terms.specs.Names.{nameOf};
+ghost use Rattle.listing.specs.Text.{digit, decimal, spaced, hexadecimal, bitsOf, Wrote};
+ghost use Rattle.listing.specs.Listing.{countsLine, floats, termLine, termLines, fitText, refusalText, listingRoom};
+use solver::FitResult;
+
+// Room for any listing of 16 terms.
+pub const LISTING: usize = 925;
+
+fn put_byte(out: &mut [u8], at: usize, b: u8) -> usize
+    requires { ⌜ at + 1 ≤ length (now out) ⌝ }
+    ensures { λ r. ⌜ Wrote (b ∷ []) at (now (out .entry)) (now (out .exit)) r ⌝ }
+{
+    out[at] = b;
+    at + 1
+}
+
+fn put_bytes(out: &mut [u8], at: usize, text: &[u8]) -> usize
+    requires { ⌜ at + length (now text) ≤ length (now out) ⌝ }
+    ensures { λ r. ⌜ Wrote (now (text .entry)) at (now (out .entry)) (now (out .exit)) r ⌝ }
+{
+    for i in 0..text.len() {
+        out[at + i] = text[i];
+    }
+    at + text.len()
+}
+
+// The bytes before the first zero.
+fn put_name(out: &mut [u8], at: usize, name: [u8; 16]) -> usize
+    requires { ⌜ at + 16 ≤ length (now out) ⌝ }
+    ensures { λ r. ⌜ Wrote (nameOf name) at (now (out .entry)) (now (out .exit)) r × (r ≤ at + 16) ⌝ }
+{
+    for i in 0..16usize {
+        if name[i] == 0 {
+            return at + i;
+        }
+        out[at + i] = name[i];
+    }
+    at + 16
+}
+
+fn digit_of(d: u8) -> u8
+    requires { ⌜ d < 16 ⌝ }
+    ensures { λ r. ⌜ r ≡ digit d ⌝ }
+{
+    if d < 10 { b'0' + d } else { b'a' + (d - 10) }
+}
+
+fn put_decimal(out: &mut [u8], at: usize, v: usize) -> usize
+    requires { ⌜ at + length (decimal v) ≤ length (now out) ⌝ }
+    ensures { λ r. ⌜ Wrote (decimal v) at (now (out .entry)) (now (out .exit)) r ⌝ }
+{
+    let last = digit_of((v % 10) as u8);
+    if v < 10 {
+        return put_byte(out, at, last);
+    }
+    let next = put_decimal(out, at, v / 10);
+    put_byte(out, next, last)
+}
+
+// Sixteen digits in base 16.
+fn hex_digits(v: u64) -> [u8; 16]
+    ensures { λ r. ⌜ r ≡ hexadecimal v ⌝ }
+{
+    let mut text = [0u8; 16];
+    for i in 0..16u64 {
+        let d = (v >> (60 - 4 * i)) % 16;
+        text[i as usize] = digit_of(d as u8);
+    }
+    text
+}
+
+fn put_bits(out: &mut [u8], at: usize, x: f64) -> usize
+    requires { ⌜ at + 16 ≤ length (now out) ⌝ }
+    ensures { λ r. ⌜ Wrote (bitsOf x) at (now (out .entry)) (now (out .exit)) r × (r ≡ at + 16) ⌝ }
+{
+    let text = hex_digits(float::to_bits(x));
+    put_bytes(out, at, &text)
+}
+
+// Two floats behind a name, to the end of the line.
+fn put_floats(out: &mut [u8], at: usize, x: f64, y: f64) -> usize
+    requires { ⌜ at + 35 ≤ length (now out) ⌝ }
+    ensures { λ r. ⌜ Wrote (floats x y) at (now (out .entry)) (now (out .exit)) r × (r ≡ at + 35) ⌝ }
+{
+    let a = put_byte(out, at, b' ');
+    let b = put_bits(out, a, x);
+    let c = put_byte(out, b, b' ');
+    let d = put_bits(out, c, y);
+    put_byte(out, d, b'\n')
+}
+
+// A space and a number.
+fn put_count(out: &mut [u8], at: usize, v: usize) -> usize
+    requires { ⌜ at + 21 ≤ length (now out) ⌝ }
+    ensures { λ r. ⌜ Wrote (spaced v) at (now (out .entry)) (now (out .exit)) r × (r ≤ at + 21) ⌝ }
+{
+    let a = put_byte(out, at, b' ');
+    put_decimal(out, a, v)
+}
+
+// Free, rank, iterations, converged.
+fn put_counts(out: &mut [u8], at: usize, r: FitResult) -> usize
+    requires { ⌜ at + 71 ≤ length (now out) ⌝ }
+    ensures { λ n. ⌜ Wrote (countsLine r) at (now (out .entry)) (now (out .exit)) n × (n ≤ at + 71) ⌝ }
+{
+    let rank_info = r.rank_info;
+    let iter_report = r.iter_report;
+    let a = put_bytes(out, at, b"fit");
+    let b = put_count(out, a, rank_info.n_free);
+    let c = put_count(out, b, rank_info.rank);
+    let d = put_count(out, c, iter_report.iterations);
+    if iter_report.converged {
+        put_bytes(out, d, b" yes\n")
+    } else {
+        put_bytes(out, d, b" no\n")
+    }
+}
+
+// The stored name of a slot's term, its coefficient and its sigma.
+fn put_term(out: &mut [u8], at: usize, slot: &[u8], coefficient: f64, sigma: f64) -> usize
+    requires { ⌜ at + 51 ≤ length (now out) ⌝ }
+    ensures { λ r. ⌜ Wrote (termLine (now (slot .entry)) coefficient sigma) at (now (out .entry)) (now (out .exit)) r × (r ≤ at + 51) ⌝ }
+{
+    let reading = terms::read_term(slot);
+    let term = reading.term;
+    let name = term.name;
+    let a = put_name(out, at, name);
+    put_floats(out, a, coefficient, sigma)
+}
+
+fn put_terms(
+    out: &mut [u8],
+    at: usize,
+    names: &[u8],
+    m: usize,
+    coefficients: &[f64],
+    sigma: &[f64],
+) -> usize
+    requires { ⌜ (at + 51 * m ≤ length (now out)) × (16 * m ≤ length (now names)) × (m ≤ length (now coefficients)) × (m ≤ length (now sigma)) ⌝ }
+    ensures { λ r. ⌜ Wrote (termLines (now (names .entry)) m (now (coefficients .entry)) (now (sigma .entry))) at (now (out .entry)) (now (out .exit)) r × (r ≤ at + 51 * m) ⌝ }
+{
+    let mut next = at;
+    for j in 0..m {
+        let a = 16 * j;
+        next = put_term(out, next, &names[a..a + 16], coefficients[j], sigma[j]);
+    }
+    next
+}
+
+// The listing of an accepted fit.
+pub fn put_fit(
+    out: &mut [u8],
+    names: &[u8],
+    m: usize,
+    coefficients: &[f64],
+    sigma: &[f64],
+    r: FitResult,
+) -> usize
+    requires { ⌜ (listingRoom ≤ length (now out)) × (m ≤ 16) × (16 * m ≤ length (now names)) × (m ≤ length (now coefficients)) × (m ≤ length (now sigma)) ⌝ }
+    ensures { λ n. ⌜ Wrote (fitText (now (names .entry)) m (now (coefficients .entry)) (now (sigma .entry)) r) 0 (now (out .entry)) (now (out .exit)) n ⌝ }
+{
+    let a = put_counts(out, 0, r);
+    let b = put_terms(out, a, names, m, coefficients, sigma);
+    let c = put_bytes(out, b, b"sky");
+    put_floats(out, c, r.sky_rms, r.popn_sd)
+}
+
+// The listing of a refusal.
+pub fn put_refusal(out: &mut [u8], number: u8) -> usize
+    requires { ⌜ listingRoom ≤ length (now out) ⌝ }
+    ensures { λ r. ⌜ Wrote (refusalText number) 0 (now (out .entry)) (now (out .exit)) r ⌝ }
+{
+    let a = put_bytes(out, 0, b"no");
+    let b = put_count(out, a, number as usize);
+    put_byte(out, b, b'\n')
+}

@@ -1,0 +1,5 @@
+pub mod Laws
+pub mod Header
+pub mod Listing
+pub mod Theorems
+pub mod Example

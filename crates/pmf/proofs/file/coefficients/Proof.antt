@@ -1,0 +1,37 @@
+-- `pmf::file::coefficients` meets its contract. Assumes nothing.
+use native.Mathlib.Omega.{arith}
+use lib.ListN.{length-take}
+use Rattle.pmf.proofs.Laws.{lent-front}
+use borrow.Author.Needs.{needs}
+use Rattle.pmf.proofs.file.coefficients.Statement.{statement}
+use Rattle.pmf.proofs.file.coefficients.Tie as tie
+
+mul-read-doubles : tie.Need-mul-read-doubles
+mul-read-doubles c = search needs
+
+add-read-doubles : tie.Need-add-read-doubles
+add-read-doubles c = search needs
+
+array-borrow-prefix-out : tie.Need-array-borrow-prefix-out
+array-borrow-prefix-out c = search needs
+
+slice-aggregate-read-doubles : tie.Need-slice-aggregate-read-doubles
+slice-aggregate-read-doubles c = simp length-take (omega arith)
+
+read-doubles-requires : tie.Need-read-doubles-requires
+read-doubles-requires c κs =
+    λ i h. let g = simp length-take at h in omega arith
+
+returns : tie.Need-returns
+returns c = lent-front _ (c .before .before .before .before .args .m) _ _ (omega arith) (c .before .read-doubles .ensures)
+
+pub coefficients-spec : {M : Type 1} → statement M
+coefficients-spec =
+    tie.close
+    (tie.spec
+    mul-read-doubles
+    add-read-doubles
+    array-borrow-prefix-out
+    slice-aggregate-read-doubles
+    read-doubles-requires
+    returns)

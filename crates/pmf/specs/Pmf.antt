@@ -1,0 +1,96 @@
+-- The file program from bytes to listing (document 01, "The file program"). Definitions only.
+use Prim.Native.Nat.{ℕ, _≤_}
+use mathlib.Core.Path.{_≡_}
+use mathlib.Core.Bool.{Bool, _&&_, _||_, cond}
+use mathlib.Core.List.{List, [], _∷_, _++_}
+use lib.Dec.{leb, eqb}
+use lib.ListN.{length, drop, replicate}
+use Rattle.float.specs.Float.{#0}
+use Rattle.harmonic.specs.Table.{ascii}
+use Rattle.terms.specs.Names.{same}
+use Rattle.terms.specs.Questions.{ask, firstNo}
+use Rattle.solver.specs.declared.Fit.{Fit}
+use Rattle.solver.specs.declared.Fit.the-variants.{Done, Refused}
+use Rattle.solver.specs.declared.IterOptions.{IterOptions}
+use Rattle.validate.specs.Call.{Lent, Buffers, buffers, sizesOf}
+use Rattle.validate.specs.Questions.{asked}
+use Rattle.validate.specs.declared.Asked.{Asked}
+use Rattle.validate.specs.declared.Asked.the-variants.{Pass, No}
+use Rattle.outcome.specs.Outcome.{Outcome, outcome}
+use Rattle.single_step.specs.SingleStep.{fitOutcome}
+use Rattle.iterated.specs.Iterated.{iteratedOutcome}
+use Rattle.listing.specs.Listing.{fitText, refusalText, listingRoom}
+use Rattle.pmf.specs.File.{markOf, versionOf, termsOf, modeOf, starsOf, fileSize, inputOf, optionsOf}
+
+-- ---- is the file well formed?
+
+abbrev pub modeKnown : ℕ → Bool
+modeKnown k = eqb k 0 || eqb k 1 || eqb k 3
+
+-- the number of the first no, or 0
+unfoldable pub fileNo : List ℕ → ℕ
+fileNo s =
+    let m = termsOf s in
+    let n = starsOf s in
+    firstNo (λ k. k) 0
+    (ask (leb 9 (length s)) 15
+    ∷ ask (same (markOf s) (ascii "PMF")) 15
+    ∷ ask (eqb (versionOf s) 1) 15
+    ∷ ask (modeKnown (modeOf s)) 15
+    ∷ ask (leb m 16 && leb n 100) 1
+    ∷ ask (eqb (length s) (fileSize m n)) 15
+    ∷ [])
+
+-- what is known of a file where there is none
+pub record WellFormed (s : List ℕ) : Type 0 where
+  pub terms : termsOf s ≤ 16
+  pub stars : starsOf s ≤ 100
+  pub size : length s ≡ fileSize (termsOf s) (starsOf s)
+
+-- ---- the fit
+
+-- the buffers of a fit of 16 terms to 100 stars
+unfoldable pub room : Buffers
+room = buffers (replicate 16 #0) (replicate 16 #0) (replicate 16 #0) (replicate 300 #0) (replicate 8096 #0)
+
+-- the fit of a mode: 0 is the single step, 1 and 3 are the iterated fit
+unfoldable pub fitOf : ℕ → Lent → IterOptions → Buffers → Outcome
+fitOf mode l o b = cond (eqb mode 0) (fitOutcome l b) (iteratedOutcome l o b)
+
+-- the questions are put to every field in every mode, then the fit is made
+abbrev pub decided : Asked → ℕ → Lent → IterOptions → Outcome
+decided (Pass free) mode l o = fitOf mode l o room
+decided (No k) mode l o = outcome (Refused k) room
+
+unfoldable pub outcomeOf : ℕ → Lent → IterOptions → Outcome
+outcomeOf mode l o = decided (asked l o (sizesOf room)) mode l o
+
+-- ---- the listing
+
+abbrev pub answerText : Lent → Buffers → Fit → List ℕ
+answerText l b (Done r) = fitText (l .names) (length (l .coefficients)) (b .coefficients) (b .sigma) r
+answerText l b (Refused k) = refusalText k
+
+abbrev pub outcomeText : Lent → Outcome → List ℕ
+outcomeText l o = answerText l (o .left) (o .answer)
+
+-- what the program prints of a file
+unfoldable pub listed : List ℕ → List ℕ
+listed s =
+    let no = fileNo s in
+    let text = outcomeText (inputOf s) (outcomeOf (modeOf s) (inputOf s) (optionsOf s)) in
+    cond (eqb no 0) text (refusalText no)
+
+-- ---- the call
+
+-- how many bytes were written, and what the buffer holds at the end
+pub record Listed : Type 0 where
+  pub count : ℕ
+  pub buffer : List ℕ
+
+abbrev pub written : List ℕ → List ℕ → Listed
+written text d = record { count = length text; buffer = text ++ drop (length text) d }
+
+-- a buffer that is too short for some listing is left as it was
+unfoldable pub listedIn : List ℕ → List ℕ → Listed
+listedIn s d = cond (leb listingRoom (length d)) (written (listed s) d) (written [] d)
