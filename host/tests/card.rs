@@ -1,0 +1,236 @@
+//! `pmf-card` as a user runs it, on the oracle's listings of `examples/`.
+
+mod common;
+
+use common::{bytes, code, err, out, path, run, text, written, FITTED};
+use host::belongs;
+use host::listing::{self, Listing};
+use host::pmf::decode;
+use host::residuals::rms;
+
+fn card(name: &str) -> String {
+    let made = run(
+        "pmf-card",
+        &[
+            &path(&format!("{name}.pmf")),
+            &path(&format!("{name}.listing")),
+        ],
+        b"",
+    );
+    assert_eq!((code(&made), err(&made).as_str()), (0, ""), "{name}");
+    out(&made)
+}
+
+#[test]
+fn the_night() {
+    let card = card("night");
+    for words in [
+        "POINTING CARD  night.pmf\n",
+        "Latitude        +34.5000 degrees\n",
+        "Converged       yes, after 2 iterations\n",
+        "Terms           6 free, 0 fixed; rank 6\n",
+        "IH         -187.11\"        1.73\"          0.00\"  free   Hour angle index error\n",
+        "Sky RMS              4.89\"",
+        "Population SD        5.46\"",
+        "East         15 stars  sky RMS      4.16\"",
+    ] {
+        assert!(card.contains(words), "{words}\n{card}");
+    }
+    assert!(
+        !card.contains("WARNING") && !card.contains("Farther off"),
+        "{card}"
+    );
+}
+
+#[test]
+fn wrong_piers_are_pointed_out() {
+    let card = card("wrong-piers");
+    let far: Vec<&str> = card
+        .lines()
+        .filter(|line| line.starts_with("  star "))
+        .collect();
+    assert_eq!(far.len(), 2, "{card}");
+    assert!(far[0].starts_with("  star   9 ") && far[1].starts_with("  star  22 "));
+    assert!(card.contains("iterated and robust"));
+}
+
+#[test]
+fn many_terms() {
+    let card = card("many-terms");
+    for words in [
+        "WARNING: rank 2 is below the 3 free terms: 1 combination of the terms can't be told",
+        "Terms           3 free, 13 fixed; rank 2\n",
+        "TX3              1.50\"            -          1.50\"  fixed  Tube flexure (tan^3 zeta)\n",
+        "ID             224.53\"",
+        "Harmonic in hour angle: sin h * cos A with A = 0\n",
+    ] {
+        assert!(card.contains(words), "{words}\n{card}");
+    }
+}
+
+#[test]
+fn document_01() {
+    let card = card("document-01");
+    assert!(card.contains(
+        "ID           10.00\"        0.00\"          0.00\"  free   Declination index error\n"
+    ));
+    assert!(card.contains("Population SD            -  not known: no more stars than free terms"));
+}
+
+#[test]
+fn not_converged() {
+    let card = card("no-iterations");
+    assert!(card.contains("Converged       NO, after 0 iterations"));
+    assert!(card.contains("WARNING: the fit did not converge"));
+    assert!(card.contains("ID           10.00\""));
+}
+
+/// The residuals worked out here give the oracle's sky RMS.
+#[test]
+fn residuals_agree_with_the_oracle() {
+    for name in FITTED {
+        let run = decode(&bytes(&format!("{name}.pmf"))).expect(name);
+        let Ok(Listing::Fit(fit)) = listing::read(&text(&format!("{name}.listing"))) else {
+            panic!("{name}");
+        };
+        let fitted = belongs::pair(run, fit).expect(name);
+        let (here, there) = (rms(fitted.residuals.iter()), fitted.fit.sky_rms);
+        assert!(
+            (here - there).abs() <= 1e-12 * there,
+            "{name}: {here} {there}"
+        );
+    }
+}
+
+#[test]
+fn plots() {
+    for name in FITTED {
+        let file = written(&format!("{name}.svg"));
+        let (pmf, listing) = (
+            path(&format!("{name}.pmf")),
+            path(&format!("{name}.listing")),
+        );
+        let made = run("pmf-card", &["--svg", &file, &pmf, &listing], b"");
+        assert_eq!(code(&made), 0, "{name}: {}", err(&made));
+        let svg = std::fs::read_to_string(&file).expect(name);
+        assert!(svg.starts_with("<svg ") && svg.ends_with("</svg>\n"));
+        assert!(!svg.contains("NaN") && !svg.contains("inf"), "{name}");
+        let stars = decode(&bytes(&format!("{name}.pmf")))
+            .expect(name)
+            .stars
+            .len();
+        assert_eq!(svg.matches("stroke-width=\"1.6\"").count(), stars, "{name}");
+        assert!(svg.contains("hour angle in hours") && svg.contains("declination in degrees"));
+        assert!(svg.contains("Pier side") && svg.contains("East: "));
+    }
+    let svg = std::fs::read_to_string(written("night.svg")).expect("night");
+    assert!(svg.contains("10\" on the sky") && svg.contains("West: 15, RMS 5.52\""));
+}
+
+#[test]
+fn a_refusal() {
+    let (file, card) = (written("refused.svg"), written("refused.txt"));
+    let words = [
+        "--svg",
+        &file,
+        "-o",
+        &card,
+        &path("refused.pmf"),
+        &path("refused.listing"),
+    ];
+    let made = run("pmf-card", &words, b"");
+    assert_eq!((code(&made), out(&made).as_str()), (1, ""));
+    assert!(err(&made).contains("the fit refused it with number 8"));
+    assert!(!std::path::Path::new(&file).exists());
+    let card = std::fs::read_to_string(&card).expect("a card");
+    assert!(card.contains("REFUSED with number 8") && card.contains("term 3 is 'NPAE'"));
+}
+
+#[test]
+fn a_refusal_of_a_damaged_file() {
+    let file = written("damaged.pmf");
+    std::fs::write(&file, &bytes("night.pmf")[..1000]).expect("written");
+    let made = run("pmf-card", &[&file], b"no 15\n");
+    assert_eq!(code(&made), 1);
+    assert!(
+        out(&made).contains("In this file: 1000 bytes: 6 terms and 30 stars make 9615."),
+        "{}",
+        out(&made)
+    );
+}
+
+/// Ends with 1, says why, makes no card.
+fn assert_bad(pmf: &str, listing: &str, words: &str) {
+    let made = run("pmf-card", &[pmf], listing.as_bytes());
+    assert_eq!(code(&made), 1, "{words}");
+    assert!(made.stdout.is_empty(), "{words}");
+    assert!(err(&made).contains(words), "{}", err(&made));
+}
+
+#[test]
+fn listings_of_other_files() {
+    let (night, pmf) = (text("night.listing"), path("night.pmf"));
+    assert_bad(
+        &pmf,
+        &text("document-01.listing"),
+        "the listing has 1 terms and the file 6",
+    );
+    assert_bad(
+        &pmf,
+        &night.replace("NP ", "TF "),
+        "line 5: the listing has TF where the file has NP",
+    );
+    assert_bad(
+        &pmf,
+        &night.replace("fit 6", "fit 5"),
+        "line 1: the listing has 5 free terms and the file 6",
+    );
+    assert_bad(
+        &pmf,
+        &night.replace("fit 6 6", "fit 6 7"),
+        "line 1: rank 7 of 6 free terms",
+    );
+    assert_bad(
+        &pmf,
+        &night.replace("fit 6 6 2", "fit 6 6 51"),
+        "line 1: 51 iterations: the file allows 50",
+    );
+    assert_bad(
+        &path("wrong-piers.pmf"),
+        &night,
+        "the listing's sky RMS is 4.8",
+    );
+    let fixed = text("many-terms.listing").replace("TF 4029", "TF 4039");
+    assert_bad(
+        &path("many-terms.pmf"),
+        &fixed,
+        "line 5: TF was fixed at 12.5",
+    );
+}
+
+#[test]
+fn bad_listings_and_files() {
+    let pmf = path("night.pmf");
+    assert_bad(&pmf, "", "standard input: line 1: empty");
+    assert_bad(&pmf, "no 16\n", "line 1: expected 'fit");
+    assert_bad(
+        &pmf,
+        "fit 6 6 2 yes\nIH c067\n",
+        "line 2: the last line is not 'sky'",
+    );
+    assert_bad(&path("night.csv"), &text("night.listing"), "no mark PMF");
+}
+
+#[test]
+fn usage() {
+    let help = run("pmf-card", &["-h"], b"");
+    assert_eq!(code(&help), 0);
+    assert!(out(&help).starts_with("pmf-card [--svg PLOT.svg]"));
+    for words in [&[][..], &["-"], &["--what"], &["a", "b", "c"], &["--svg"]] {
+        assert_eq!(code(&run("pmf-card", words, b"")), 2, "{words:?}");
+    }
+    assert_eq!(
+        code(&run("pmf-card", &["/no/such/file.pmf"], b"no 15\n")),
+        1
+    );
+}
