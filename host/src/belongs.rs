@@ -2,6 +2,7 @@
 
 use crate::fault::Fault;
 use crate::listing::Fit;
+use crate::refusal;
 use crate::residuals::{residuals, rms, Residual};
 use crate::run::{Mode, Run};
 use crate::terms::{read, Kind};
@@ -21,6 +22,12 @@ pub struct Fitted {
 
 /// Pairs a listing with its file.
 pub fn pair(run: Run, fit: Fit) -> Result<Fitted, Fault> {
+    if let Some(place) = refusal::not_finite(&run) {
+        return Err(Fault::whole(format!(
+            "the file holds a number that is not finite ({place}), which no fit accepts: \
+             expected the listing of this file"
+        )));
+    }
     let kinds = kinds(&run, &fit)?;
     counts(&run, &fit)?;
     fixed(&run, &fit)?;

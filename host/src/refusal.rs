@@ -32,8 +32,11 @@ pub fn card(file: &str, number: u8, found: Option<&str>) -> String {
     let mut out = format!("POINTING CARD  {file}\n\n");
     out += &format!("REFUSED with number {number}: nothing was fitted.\n");
     out += &format!("  {what}\n  {help}\n");
-    if let Some(found) = found {
-        out += &format!("  In this file: {found}.\n");
+    match found {
+        Some(found) => out += &format!("  In this file: {found}.\n"),
+        None => {
+            out += "  Nothing of the kind was found in this file: is it the file of this listing?\n"
+        }
     }
     out
 }
@@ -44,24 +47,26 @@ pub fn found(number: u8, bytes: &[u8]) -> Option<String> {
         Ok(run) => run,
         Err(fault) => return Some(fault),
     };
+    let (m, free, n) = (run.terms.len(), run.free(), run.stars.len());
+    let counts = format!("{m} terms, {free} of them free, and {n} stars");
     match number {
         4 => not_finite(&run),
-        6 => Some(format!("max_iter is {}", run.options.max_iter)),
+        6 => {
+            (run.options.max_iter > 1_000).then(|| format!("max_iter is {}", run.options.max_iter))
+        }
         8..=10 => {
             let bad = run.terms.iter().position(|t| read(&t.name).is_none())?;
             Some(format!("term {} is '{}'", bad + 1, run.terms[bad].name))
         }
-        11..=13 => Some(format!(
-            "{} terms, {} of them free, and {} stars",
-            run.terms.len(),
-            run.free(),
-            run.stars.len()
-        )),
+        11 => (m == 0).then_some(counts),
+        12 => (m > 0 && free == 0).then_some(counts),
+        13 => (n < free).then_some(counts),
         _ => None,
     }
 }
 
-fn not_finite(run: &Run) -> Option<String> {
+/// The first number of a run that is not finite.
+pub fn not_finite(run: &Run) -> Option<String> {
     let o = &run.options;
     let header = [
         run.sin_lat,

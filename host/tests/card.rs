@@ -209,6 +209,43 @@ fn listings_of_other_files() {
 }
 
 #[test]
+fn a_refusal_of_another_file() {
+    for number in 1..=15 {
+        let listing = format!("no {number}\n");
+        let made = run("pmf-card", &[&path("night.pmf")], listing.as_bytes());
+        assert_eq!(code(&made), 1);
+        assert!(
+            out(&made).contains("Nothing of the kind was found"),
+            "{number}"
+        );
+    }
+}
+
+/// What is found in files that the fit refuses with the number.
+#[test]
+fn refusals_of_changed_files() {
+    for (number, place, value, words) in [
+        (4, 15, &[0xf0, 0x7f][..], "the latitude or an option"),
+        (4, 0x5c + 6, &[0xf0, 0x7f], "the start of term 1"),
+        (4, 0x75 + 6, &[0xf0, 0xff], "a number of star 1"),
+        (5, 0x5b, &[2], "term 1: fixed flag 2"),
+        (5, 0x64, &[9], "star 1: pier code 9"),
+        (6, 73, &[0xe9, 3], "max_iter is 1001"),
+        (7, 75, &[0], "term 1: its slot holds no name"),
+        (8, 75, b"IA", "term 1 is 'IA'"),
+        (9, 75, b"TX0", "term 1 is 'TX0'"),
+        (10, 75, b"HHS", "term 1 is 'HHS'"),
+        (12, 0x5b, &[1], "1 terms, 0 of them free, and 1 stars"),
+        (15, 3, &[2], "version 2: expected 1"),
+    ] {
+        let mut pmf = bytes("document-01.pmf");
+        pmf[place..place + value.len()].copy_from_slice(value);
+        let found = host::refusal::found(number, &pmf).unwrap_or_default();
+        assert!(found.contains(words), "{number}: {found}");
+    }
+}
+
+#[test]
 fn bad_listings_and_files() {
     let pmf = path("night.pmf");
     assert_bad(&pmf, "", "standard input: line 1: empty");
