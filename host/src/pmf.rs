@@ -16,19 +16,8 @@ pub fn encode(run: &Run) -> Vec<u8> {
     out.push(run.terms.len() as u8);
     out.push(run.mode.code());
     out.extend((run.stars.len() as u16).to_le_bytes());
-    let o = &run.options;
-    let header = [
-        run.sin_lat,
-        run.cos_lat,
-        o.fit_tol,
-        o.tol_rad,
-        o.initial_lambda,
-        o.lambda_up,
-        o.lambda_down,
-        o.huber_k,
-    ];
-    doubles(&mut out, &header);
-    out.extend(o.max_iter.to_le_bytes());
+    doubles(&mut out, &run.doubles());
+    out.extend(run.options.max_iter.to_le_bytes());
     for term in &run.terms {
         let mut slot = [0; NAME];
         slot[..term.name.len()].copy_from_slice(term.name.as_bytes());

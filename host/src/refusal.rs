@@ -67,18 +67,7 @@ pub fn found(number: u8, bytes: &[u8]) -> Option<String> {
 
 /// The first number of a run that is not finite.
 pub fn not_finite(run: &Run) -> Option<String> {
-    let o = &run.options;
-    let header = [
-        run.sin_lat,
-        run.cos_lat,
-        o.fit_tol,
-        o.tol_rad,
-        o.initial_lambda,
-        o.lambda_up,
-        o.lambda_down,
-        o.huber_k,
-    ];
-    if header.iter().any(|x| !x.is_finite()) {
+    if run.doubles().iter().any(|x| !x.is_finite()) {
         return Some("the latitude or an option".into());
     }
     if let Some(j) = run.terms.iter().position(|t| !t.start.is_finite()) {

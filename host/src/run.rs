@@ -132,6 +132,21 @@ pub struct Run {
 }
 
 impl Run {
+    /// The eight doubles of a file's head, in its order.
+    pub fn doubles(&self) -> [f64; 8] {
+        let o = &self.options;
+        [
+            self.sin_lat,
+            self.cos_lat,
+            o.fit_tol,
+            o.tol_rad,
+            o.initial_lambda,
+            o.lambda_up,
+            o.lambda_down,
+            o.huber_k,
+        ]
+    }
+
     pub fn free(&self) -> usize {
         self.terms.iter().filter(|t| !t.fixed).count()
     }
