@@ -1,6 +1,6 @@
 -- Demand 3 follows from the definitions: the set that the search comes to is the best of the sets that it tries, and an accepted call returns
 -- that set. Assumes nothing.
-use Prim.Native.Nat.{ℕ, zero, suc, _+_, _-_, _*_, _≤_, _<_}
+use Prim.Native.Nat.{ℕ, zero, suc, _+_, _-_, _*_, _^_, _≤_, _<_}
 use native.Mathlib.Nat.{zero-add, suc-add}
 use native.Mathlib.Omega.{arith}
 use mathlib.Core.Path.{_≡_, refl, sym, ap, _∙_, subst}
@@ -13,11 +13,12 @@ use lib.Ieee.{Float, nan, binary64, fits, sub, lt, le}
 use lib.Ieee.Fits.{nan-fits, mul-fits, sub-fits}
 use Rattle.sequence.specs.Sequence.{at, table}
 use Rattle.sequence.proofs.Fills.{table-length, take-filled, table-front}
-use Rattle.best.specs.ChiSquare.{chi, parts}
+use Rattle.best.specs.ChiSquare.{chi, exactSum, Ratio, parts}
 use Rattle.best.specs.Trials.{proposed, answer, Keeps}
 use Rattle.best.proofs.Best.{answer-listed}
 use Rattle.best.proofs.Counts.{after-holds, few-proposed, counts, tried-length}
 use Rattle.best.proofs.Demand.{demand3}
+use Rattle.best.proofs.Fraction.{exact-is-sum}
 use Rattle.solver.specs.declared.Fit.{Fit}
 use Rattle.solver.specs.declared.Fit.the-variants.{Done, Refused}
 use Rattle.solver.specs.declared.FitResult.{FitResult}
@@ -162,6 +163,12 @@ best-of-tried l o few =
       counted = omega (arith, count-end l o, tried-length p k r);
       limited = omega (arith, count-end l o, few-proposed p k r);
     }
+
+-- the exact chi-square of a set in its units is the sum of the exact squares of its weighted residuals, as a fraction
+pub exact-at-is-sum : (l : Lent) (s : List Float) → TameAt l s → Ratio (exactSum (hour (under l s)) (dec (under l s)) (length (l .dh))) (exactAt l s) (2 ^ 2148)
+exact-at-is-sum l s t =
+    let m = made (under l s) in
+    exact-is-sum (hour (under l s)) (dec (under l s)) (length (l .dh)) (λ i h. ((m i .0, t i h .0), (m i .1, t i h .1)))
 
 -- ---- an accepted call: its answer, and what the buffers hold at its end
 
