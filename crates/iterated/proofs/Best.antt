@@ -112,7 +112,7 @@ module _ (l : Lent) (o : IterOptions) where
 
   -- ---- the loop's end, and the last trial
 
-  known-end : Known (lmLoop l o)
+  pub known-end : Known (lmLoop l o)
   unfolding lmLoop
   known-end = after-holds (trials l o) Known known-on (o .«max_iter») (begin l o) refl
 

@@ -22,11 +22,11 @@ use Rattle.design.specs.Design.{freeCount, freeProduct}
 use Rattle.products.specs.Products.{weighedTo}
 use Rattle.outcome.specs.Outcome.{heightOf, Fits}
 use Rattle.outcome.proofs.Laws.{skyTo-at, sky-same}
-use Rattle.lm_system.specs.System.{chi2Of, skyResiduals, weighedResiduals, weighedColumn, huberK, lmStep, movedAt, moved, stepNorm, LmStepped}
+use Rattle.lm_system.specs.System.{residuals, chi2Of, skyResiduals, weighedResiduals, weighedColumn, huberK, lmStep, movedAt, moved, stepNorm, Left, LmStepped}
 use Rattle.iterated.specs.declared.LmLoopResult.{LmLoopResult}
 use Rattle.iterated.specs.declared.Trial.{Trial}
 use Rattle.iterated.specs.declared.Trial.the-variants.{Accepted, Rejected}
-use Rattle.iterated.specs.Iterated.{under, chi2At, Tried, triedTo, trialOf, Report, report, hopeless, answered, leaves, trials, lmLoop, lastStep, lastSet, freeResiduals, Within, Proposed, LastTried}
+use Rattle.iterated.specs.Iterated.{under, chi2At, Tried, triedTo, trialOf, Report, report, hopeless, answered, leaves, trials, lmLoop, lastStep, lastSet, lastChi2, freeResiduals, Within, Proposed, LastTried}
 
 -- the same call with another set
 pub fits-under : (l : Lent) (s w v : List Float) → Fits l w → length s ≡ length (l .coefficients) → length v ≡ length w → Fits (under l s) v
@@ -68,7 +68,7 @@ moved-front fixed x s t e = ap (take (length s)) e ∙ take-filled (movedAt fixe
 
 pub proposes : (l : Lent) (k lambda : Float) (w w₁ w₂ set : List Float) (chi2 : Float) (a : SolveOutcome) → Fits l w → LmStepped l k lambda w w₁ a
     → set ≡ filled (length (l .coefficients)) (movedAt (l .fixed) (a .x) (l .coefficients)) zeros
-    → (chi2 ≡ chi2At l (take (length (l .coefficients)) set)) × Only 0 (4 * length (l .dh)) w₁ w₂
+    → (chi2 ≡ chi2At l (take (length (l .coefficients)) set)) × Left (under l (take (length (l .coefficients)) set)) w₂ × Only 0 (4 * length (l .dh)) w₁ w₂
     → Proposed l k lambda w w₂ set chi2 a
 proposes l k lambda w w₁ w₂ set chi2 a f st e p =
     let n = length (l .dh) in
@@ -77,14 +77,15 @@ proposes l k lambda w w₁ w₂ set chi2 a f st e p =
     let front = moved-front (l .fixed) (a .x) (l .coefficients) set e in
     record {
       step = record {
-        solution = ap (λ (u : List Float). record { outcome = a; w = u }) (p .1 .above (8 * n) (freeCount (l .fixed) * heightOf l) (omega arith)) ∙ st .solution;
-        b = p .1 .above (4 * n) (2 * n) (omega arith) ∙ st .b;
-        sky = p .1 .above (6 * n) (2 * n) (omega arith) ∙ st .sky;
-        only = only-then 0 all w w₁ w₂ (st .only) (only-wider 0 (4 * n) 0 all w₁ w₂ (omega arith) (omega arith) (p .1));
+        solution = ap (λ (u : List Float). record { outcome = a; w = u }) (p .2 .above (8 * n) (freeCount (l .fixed) * heightOf l) (omega arith)) ∙ st .solution;
+        b = p .2 .above (4 * n) (2 * n) (omega arith) ∙ st .b;
+        sky = p .2 .above (6 * n) (2 * n) (omega arith) ∙ st .sky;
+        only = only-then 0 all w w₁ w₂ (st .only) (only-wider 0 (4 * n) 0 all w₁ w₂ (omega arith) (omega arith) (p .2));
       };
       trial = front;
       long = ap length e ∙ filled-length (movedAt (l .fixed) (a .x) (l .coefficients)) m zeros (f .terms);
       chi2-is = p .0 ∙ ap (chi2At l) front;
+      left = p .1 ∙ ap (λ (s : List Float). residuals (under l s)) front;
     }
 
 -- what `copy` puts in the place of a set of as many numbers
@@ -111,6 +112,10 @@ module _ (l : Lent) (o : IterOptions) (chi2 lambda k : Float) (ek : k ≡ huberK
       → s′ ≡ filled (length (l .coefficients)) (at set) (l .coefficients) → triedTo (Accepted next norm) s′ ≡ trialOf l o chi2 lambda (l .coefficients)
   unfolding trialOf
   accepted norm s′ h en es = rw (← next-is, h, ← x-is, ← en, set-is s′ es, x-is, next-is)
+
+  -- where the residuals of the proposal lie, those of the set lie
+  pub accepted-left-by : (s′ : List Float) → s′ ≡ filled (length (l .coefficients)) (at set) (l .coefficients) → Left (under l s′) w′
+  accepted-left-by s′ e = p .left ∙ ap (λ (s : List Float). residuals (under l s)) (sym (copied (length (l .coefficients)) set (l .coefficients) s′ (omega (arith, p .long, f .terms)) refl e ∙ p .trial))
 
   pub rejected : lt next chi2 ≡ false → triedTo (Rejected (lambda ⊗ o .«lambda_up»)) (l .coefficients) ≡ trialOf l o chi2 lambda (l .coefficients)
   unfolding trialOf
@@ -155,9 +160,9 @@ module _ (l : Lent) (o : IterOptions) (chi2 k : Float) (ek : k ≡ huberK l o ch
   solution-is : record { outcome = a; w = part w₁ (8 * length (l .dh)) (freeCount (l .fixed) * heightOf l) } ≡ lastStep l o chi2 (l .coefficients)
   solution-is = p .step .solution ∙ ap (λ (z : Float). lmStep l z #0) ek
 
-  pub tried-last : (s′ : List Float) → s′ ≡ lastSet l o chi2 (l .coefficients) → LastTried l o chi2 (l .coefficients) w w₂ s′ a
+  pub tried-last : (s′ : List Float) (least : Float) → (s′ ≡ lastSet l o chi2 (l .coefficients)) × (least ≡ lastChi2 l o chi2 (l .coefficients)) → LastTried l o chi2 (l .coefficients) w w₂ s′ least a
   unfolding freeResiduals
-  tried-last s′ e =
+  tried-last s′ least e =
       let n = length (l .dh) in
       let m = length (l .fixed) in
       let same = f .pier-count in
@@ -170,7 +175,8 @@ module _ (l : Lent) (o : IterOptions) (chi2 k : Float) (ek : k ≡ huberK l o ch
       ∙ ap (λ (z : Float). zipWith (sub binary64) (weighedResiduals l z) (freeProduct (2 * n) m (l .fixed) (a .x) (weighedColumn l z))) ek
       ∙ ap (λ (s : Solved). zipWith (sub binary64) (weighedResiduals l (huberK l o chi2)) (freeProduct (2 * n) m (l .fixed) (s .outcome .x) (weighedColumn l (huberK l o chi2)))) solution-is in
       record {
-        kept = e;
+        kept = e .0;
+        least-is = e .1;
         solution = ap (λ (u : List Float). record { outcome = a; w = u }) (q .1 .above (8 * n) (freeCount (l .fixed) * heightOf l) (omega (arith, same))) ∙ solution-is;
         left = left;
         only = only-then 0 all w w₁ w₂ (p .step .only) (only-wider 0 (2 * length (l .pier) + 2 * length (l .pier)) 0 all w₁ w₂ (omega arith) (omega (arith, same)) (q .1));
@@ -179,10 +185,11 @@ module _ (l : Lent) (o : IterOptions) (chi2 k : Float) (ek : k ≡ huberK l o ch
   last-is : last ≡ chi2At l (moved (l .fixed) (lastStep l o chi2 (l .coefficients) .outcome .x) (l .coefficients))
   last-is = next-is l o chi2 #0 k ek w w₁ set last a f p
 
-  pub last-kept : (s′ : List Float) → le last chi2 ≡ true → s′ ≡ filled (length (l .coefficients)) (at set) (l .coefficients) → s′ ≡ lastSet l o chi2 (l .coefficients)
-  unfolding lastSet
-  last-kept s′ h e = rw (← last-is, h) (set-is l o chi2 #0 k ek w w₁ set last a f p s′ e)
+  pub last-kept : (s′ : List Float) → le last chi2 ≡ true → s′ ≡ filled (length (l .coefficients)) (at set) (l .coefficients)
+      → (s′ ≡ lastSet l o chi2 (l .coefficients)) × (last ≡ lastChi2 l o chi2 (l .coefficients))
+  unfolding lastSet lastChi2
+  last-kept s′ h e = (rw (← last-is, h) (set-is l o chi2 #0 k ek w w₁ set last a f p s′ e), rw (← last-is, h) refl)
 
-  pub last-not : (s′ : List Float) → le last chi2 ≡ false → s′ ≡ l .coefficients → s′ ≡ lastSet l o chi2 (l .coefficients)
-  unfolding lastSet
-  last-not s′ h e = rw (← last-is, h) e
+  pub last-not : (s′ : List Float) → le last chi2 ≡ false → s′ ≡ l .coefficients → (s′ ≡ lastSet l o chi2 (l .coefficients)) × (chi2 ≡ lastChi2 l o chi2 (l .coefficients))
+  unfolding lastSet lastChi2
+  last-not s′ h e = (rw (← last-is, h) e, rw (← last-is, h) refl)

@@ -15,8 +15,9 @@ use Rattle.solver.specs.declared.IterOptions.{IterOptions}
 use Rattle.validate.specs.Call.{Lent}
 use Rattle.design.specs.Design.{freeCount}
 use Rattle.outcome.specs.Outcome.{heightOf, Fits}
+use Rattle.lm_system.specs.System.{Left}
 use Rattle.iterated.specs.declared.LmLoopResult.{LmLoopResult}
-use Rattle.iterated.specs.Iterated.{under, Report, lmLoop, lastSet, freeResiduals, Within, LastTried, Searched}
+use Rattle.iterated.specs.Iterated.{under, Report, lmLoop, lastSet, lastChi2, freeResiduals, Within, LastTried, Searched}
 use Rattle.iterated.proofs.Laws.{within-next}
 
 -- ---- an array p that begins with the set cs
@@ -41,13 +42,14 @@ module _ (m : ℕ) (p ys : List Float) (few : m ≤ 32) (long : length p ≡ 32)
 
 -- ---- the last trial from a set of as many coefficients as the start
 
-pub last-under : (l : Lent) (o : IterOptions) (chi2 : Float) (s w₀ w set : List Float) (a : SolveOutcome) → length s ≡ length (l .coefficients)
-    → LastTried (under l s) o chi2 s w₀ w set a → LastTried l o chi2 s w₀ w set a
-unfolding lastSet freeResiduals
-last-under l o chi2 s w₀ w set a e t =
+pub last-under : (l : Lent) (o : IterOptions) (chi2 : Float) (s w₀ w set : List Float) (least : Float) (a : SolveOutcome) → length s ≡ length (l .coefficients)
+    → LastTried (under l s) o chi2 s w₀ w set least a → LastTried l o chi2 s w₀ w set least a
+unfolding lastSet lastChi2 freeResiduals
+last-under l o chi2 s w₀ w set least a e t =
     let n = length (l .dh) in
     record {
       kept = t .kept;
+      least-is = t .least-is;
       solution = ap (λ (m : ℕ). record { outcome = a; w = part w (8 * n) (freeCount (l .fixed) * (2 * n + 2 * m)) }) (sym e) ∙ t .solution;
       left = t .left;
       only = within-next l s w₀ w₀ w e (only-none 0 (8 * n + length (l .coefficients) * heightOf l) w₀) (t .only);
@@ -55,14 +57,14 @@ last-under l o chi2 s w₀ w set a e t =
 
 -- ---- the search: an array p with the start at its front; the loop leaves ys there and w₁ in scratch, the last trial zs and w₂
 
-pub searches : (l : Lent) (o : IterOptions) (p ys zs w w₁ w₂ : List Float) (how : LmLoopResult) (a : SolveOutcome) → Fits l w
+pub searches : (l : Lent) (o : IterOptions) (p ys zs w w₁ w₂ : List Float) (how : LmLoopResult) (least : Float) (a : SolveOutcome) → Fits l w
     → p ≡ filled (length (l .coefficients)) (at (l .coefficients)) zeros
     → length ys ≡ length (take (length (l .coefficients)) p)
-    → (record { set = ys; how = how } ≡ lmLoop (under l (take (length (l .coefficients)) p)) o) × Within (under l (take (length (l .coefficients)) p)) w w₁
+    → (record { set = ys; how = how } ≡ lmLoop (under l (take (length (l .coefficients)) p)) o) × Within (under l (take (length (l .coefficients)) p)) w w₁ × Left (under l ys) w₁
     → length zs ≡ length (take (length (l .coefficients)) (ys ++ drop (length (l .coefficients)) p))
-    → LastTried (under l (take (length (l .coefficients)) (ys ++ drop (length (l .coefficients)) p))) o (how .«prev_chi2») (take (length (l .coefficients)) (ys ++ drop (length (l .coefficients)) p)) w₁ w₂ zs a
-    → Searched l o w w₂ (zs ++ drop (length (l .coefficients)) (ys ++ drop (length (l .coefficients)) p)) how a
-searches l o p ys zs w w₁ w₂ how a f e ky q kz t =
+    → LastTried (under l (take (length (l .coefficients)) (ys ++ drop (length (l .coefficients)) p))) o (how .«prev_chi2») (take (length (l .coefficients)) (ys ++ drop (length (l .coefficients)) p)) w₁ w₂ zs least a
+    → Searched l o w w₂ (zs ++ drop (length (l .coefficients)) (ys ++ drop (length (l .coefficients)) p)) least how a
+searches l o p ys zs w w₁ w₂ how least a f e ky q kz t =
     let cs = l .coefficients in
     let m = length cs in
     let front = front-is cs p (f .terms) e in
@@ -73,12 +75,12 @@ searches l o p ys zs w w₁ w₂ how a f e ky q kz t =
     let count : length ys ≡ m = ky ∙ ap length front in
     let r : record { set = ys; how = how } ≡ lmLoop l o = q .0 ∙ ap (λ (s : List Float). lmLoop (under l s) o) front in
     let o₁ : Within l w w₁ = subst (λ (s : List Float). Within (under l s) w w₁) front (q .1) in
-    let t′ : LastTried l o (how .«prev_chi2») ys w₁ w₂ zs a = last-under l o (how .«prev_chi2») ys w₁ w₂ zs a count (subst (λ (s : List Float). LastTried (under l s) o (how .«prev_chi2») s w₁ w₂ zs a) back t) in
-    let t″ : LastTried l o (how .«prev_chi2») ys w w₂ zs a =
-    record { kept = t′ .kept; solution = t′ .solution; left = t′ .left; only = within-next l cs w w₁ w₂ refl o₁ (t′ .only) } in
-    let all : LastTried l o (lmLoop l o .how .«prev_chi2») (lmLoop l o .set) w w₂ zs a = subst (λ (x : Report). LastTried l o (x .how .«prev_chi2») (x .set) w w₂ zs a) r t″ in
+    let t′ : LastTried l o (how .«prev_chi2») ys w₁ w₂ zs least a = last-under l o (how .«prev_chi2») ys w₁ w₂ zs least a count (subst (λ (s : List Float). LastTried (under l s) o (how .«prev_chi2») s w₁ w₂ zs least a) back t) in
+    let t″ : LastTried l o (how .«prev_chi2») ys w w₂ zs least a =
+    record { kept = t′ .kept; least-is = t′ .least-is; solution = t′ .solution; left = t′ .left; only = within-next l cs w w₁ w₂ refl o₁ (t′ .only) } in
+    let all : LastTried l o (lmLoop l o .how .«prev_chi2») (lmLoop l o .set) w w₂ zs least a = subst (λ (x : Report). LastTried l o (x .how .«prev_chi2») (x .set) w w₂ zs least a) r t″ in
     record {
       came = ap (λ (x : Report). x .how) r;
-      last = subst (λ (s : List Float). LastTried l o (lmLoop l o .how .«prev_chi2») (lmLoop l o .set) w w₂ s a) (sym (back-front m P zs (f .terms) long′ kz)) all;
+      last = subst (λ (s : List Float). LastTried l o (lmLoop l o .how .«prev_chi2») (lmLoop l o .set) w w₂ s least a) (sym (back-front m P zs (f .terms) long′ kz)) all;
       long = back-array m P zs (f .terms) long′ kz;
     }

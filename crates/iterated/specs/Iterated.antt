@@ -21,7 +21,7 @@ use Rattle.validate.specs.declared.Asked.{Asked}
 use Rattle.validate.specs.declared.Asked.the-variants.{Pass, No}
 use Rattle.design.specs.Design.{freeCount, freeProduct}
 use Rattle.outcome.specs.Outcome.{rowsOf, heightOf, resultOf, Outcome, outcome, finished}
-use Rattle.lm_system.specs.System.{residuals, chi2Of, huberK, weighedResiduals, weighedColumn, lmStep, moved, stepNorm, LmStepped}
+use Rattle.lm_system.specs.System.{residuals, chi2Of, huberK, weighedResiduals, weighedColumn, lmStep, moved, stepNorm, Left, LmStepped}
 use Rattle.iterated.specs.declared.LmLoopResult.{LmLoopResult}
 use Rattle.iterated.specs.declared.Trial.{Trial}
 use Rattle.iterated.specs.declared.Trial.the-variants.{Accepted, Rejected}
@@ -115,6 +115,12 @@ lastSet l o chi2 s =
     let t = proposal l o chi2 #0 s in
     cond (le (chi2At l t) chi2) t s
 
+-- the chi-square of that set, where that of s is chi2
+unfoldable pub lastChi2 : Lent → IterOptions → Float → List Float → Float
+lastChi2 l o chi2 s =
+    let last = chi2At l (proposal l o chi2 #0 s) in
+    cond (le last chi2) last chi2
+
 -- b_final - a_free_final * x, kept or not
 unfoldable pub freeResiduals : Lent → IterOptions → Float → List Float → List Float
 freeResiduals l o chi2 s =
@@ -159,16 +165,18 @@ pub record Proposed (l : Lent) (k lambda : Float) (w₀ w set : List Float) (chi
   pub trial : take (length (l .coefficients)) set ≡ moved (l .fixed) (a .x) (l .coefficients)
   pub long : length set ≡ 32
   pub chi2-is : chi2 ≡ chi2At l (moved (l .fixed) (a .x) (l .coefficients))
+  pub left : Left (under l (moved (l .fixed) (a .x) (l .coefficients))) w
 
--- the last trial: the set, the solver's answer with its columns, and the free terms' residuals
-pub record LastTried (l : Lent) (o : IterOptions) (chi2 : Float) (s w₀ w set : List Float) (a : SolveOutcome) : Type 0 where
+-- the last trial: the set and its chi-square, the solver's answer with its columns, and the free terms' residuals
+pub record LastTried (l : Lent) (o : IterOptions) (chi2 : Float) (s w₀ w set : List Float) (least : Float) (a : SolveOutcome) : Type 0 where
   pub kept : set ≡ lastSet l o chi2 s
+  pub least-is : least ≡ lastChi2 l o chi2 s
   pub solution : record { outcome = a; w = part w (8 * length (l .dh)) (freeCount (l .fixed) * heightOf l) } ≡ lastStep l o chi2 s
   pub left : part w (2 * length (l .dh)) (2 * length (l .dh)) ≡ freeResiduals l o chi2 s
   pub only : Within l w₀ w
 
 -- the search as a whole, with the set at the front of an array
-pub record Searched (l : Lent) (o : IterOptions) (w₀ w set : List Float) (how : LmLoopResult) (a : SolveOutcome) : Type 0 where
+pub record Searched (l : Lent) (o : IterOptions) (w₀ w set : List Float) (chi2 : Float) (how : LmLoopResult) (a : SolveOutcome) : Type 0 where
   pub came : how ≡ lmLoop l o .how
-  pub last : LastTried l o (lmLoop l o .how .«prev_chi2») (lmLoop l o .set) w₀ w (take (length (l .coefficients)) set) a
+  pub last : LastTried l o (lmLoop l o .how .«prev_chi2») (lmLoop l o .set) w₀ w (take (length (l .coefficients)) set) chi2 a
   pub long : length set ≡ 32

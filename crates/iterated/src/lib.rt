@@ -9,9 +9,8 @@ ghost use Rattle.sequence.specs.Sequence.{at, filled, Only};
 ghost use Rattle.column.specs.Column.{zeros};
 ghost use Rattle.validate.specs.Call.{lent, buffers, sizesOf};
 ghost use Rattle.validate.specs.Questions.{Ready};
-ghost use Rattle.stats.specs.Stats.{skyFrom};
-ghost use Rattle.outcome.specs.Outcome.{cosDecs, outcome, Fits};
-ghost use Rattle.lm_system.specs.System.{residuals};
+ghost use Rattle.outcome.specs.Outcome.{outcome, Fits};
+ghost use Rattle.lm_system.specs.System.{Left};
 ghost use Rattle.iterated.specs.Iterated.{triedTo, trialOf, lmLoop, Within, Proposed, LastTried, Searched, fitted, iteratedOutcome};
 ghost use Rattle.iterated.specs.Demand3.{Demand3};
 use linalg::SolveOutcome;
@@ -20,7 +19,6 @@ use solver::FitResult;
 use solver::IterOptions;
 use solver::IterReport;
 use solver::RankInfo;
-use stats::Sky;
 use validate::Asked;
 
 // What comes of a trial: its chi-square and the step's length where it is kept, and else the raised damping.
@@ -45,7 +43,8 @@ struct Proposal {
     pub solved: SolveOutcome,
 }
 
-// What the step at a damping proposes, with the weights that belong to k.
+// What the step at a damping proposes, with the weights that belong to k. The residuals of the set lie at 2·n, and at the end those of the
+// proposal.
 fn propose(
     names: &[u8],
     fixed: &[u8],
@@ -61,7 +60,7 @@ fn propose(
     lambda: f64,
     w: &mut [f64],
 ) -> Proposal
-    requires { ⌜ Fits (lent (now names) (now fixed) (now set) (now dh) (now dd) (now pier) (now sheets) «sin_lat» «cos_lat» «fit_tol») (now w) ⌝ }
+    requires { ⌜ Fits (lent (now names) (now fixed) (now set) (now dh) (now dd) (now pier) (now sheets) «sin_lat» «cos_lat» «fit_tol») (now w) × Left (lent (now names) (now fixed) (now set) (now dh) (now dd) (now pier) (now sheets) «sin_lat» «cos_lat» «fit_tol») (now w) ⌝ }
     ensures { λ r. ⌜ Proposed (lent (now (names .entry)) (now (fixed .entry)) (now (set .entry)) (now (dh .entry)) (now (dd .entry)) (now (pier .entry)) (now (sheets .entry)) «sin_lat» «cos_lat» «fit_tol») k lambda (now (w .entry)) (now (w .exit)) (r .set) (r .chi2) (r .solved) ⌝ }
 {
     let m = set.len();
@@ -102,7 +101,8 @@ fn propose(
     }
 }
 
-// One trial. The set moves where its chi-square is strictly below the current one: a NaN fails.
+// One trial. The set moves where its chi-square is strictly below the current one: a NaN fails. The residuals of the set lie at 2·n before and
+// after it.
 fn attempt(
     names: &[u8],
     fixed: &[u8],
@@ -119,8 +119,9 @@ fn attempt(
     set: &mut [f64],
     w: &mut [f64],
 ) -> Trial
-    requires { ⌜ Fits (lent (now names) (now fixed) (now set) (now dh) (now dd) (now pier) (now sheets) «sin_lat» «cos_lat» «fit_tol») (now w) ⌝ }
-    ensures { λ r. ⌜ (triedTo r (now (set .exit)) ≡ trialOf (lent (now (names .entry)) (now (fixed .entry)) (now (set .entry)) (now (dh .entry)) (now (dd .entry)) (now (pier .entry)) (now (sheets .entry)) «sin_lat» «cos_lat» «fit_tol») options chi2 lambda (now (set .entry))) × Within (lent (now (names .entry)) (now (fixed .entry)) (now (set .entry)) (now (dh .entry)) (now (dd .entry)) (now (pier .entry)) (now (sheets .entry)) «sin_lat» «cos_lat» «fit_tol») (now (w .entry)) (now (w .exit)) ⌝ }
+    requires { ⌜ Fits (lent (now names) (now fixed) (now set) (now dh) (now dd) (now pier) (now sheets) «sin_lat» «cos_lat» «fit_tol») (now w) × Left (lent (now names) (now fixed) (now set) (now dh) (now dd) (now pier) (now sheets) «sin_lat» «cos_lat» «fit_tol») (now w) ⌝ }
+    ensures { λ r. ⌜ (triedTo r (now (set .exit)) ≡ trialOf (lent (now (names .entry)) (now (fixed .entry)) (now (set .entry)) (now (dh .entry)) (now (dd .entry)) (now (pier .entry)) (now (sheets .entry)) «sin_lat» «cos_lat» «fit_tol») options chi2 lambda (now (set .entry)))
+        × Within (lent (now (names .entry)) (now (fixed .entry)) (now (set .entry)) (now (dh .entry)) (now (dd .entry)) (now (pier .entry)) (now (sheets .entry)) «sin_lat» «cos_lat» «fit_tol») (now (w .entry)) (now (w .exit)) × Left (lent (now (names .entry)) (now (fixed .entry)) (now (set .exit)) (now (dh .entry)) (now (dd .entry)) (now (pier .entry)) (now (sheets .entry)) «sin_lat» «cos_lat» «fit_tol») (now (w .exit)) ⌝ }
 {
     let m = set.len();
     let k = lm_system::huber_threshold(dh.len(), fixed, options, chi2);
@@ -146,6 +147,19 @@ fn attempt(
         outcome::copy(&trial, m, set);
         return Trial::Accepted(next.chi2, lm_system::rotational_step_norm(names, fixed, &x));
     }
+    lm_system::residuals_under_state(
+        names,
+        fixed,
+        set,
+        dh,
+        dd,
+        pier,
+        sheets,
+        sin_lat,
+        cos_lat,
+        fit_tol,
+        w,
+    );
     Trial::Rejected(lambda * options.lambda_up)
 }
 
@@ -165,7 +179,7 @@ fn run_lm_loop(
     w: &mut [f64],
 ) -> LmLoopResult
     requires { ⌜ Fits (lent (now names) (now fixed) (now set) (now dh) (now dd) (now pier) (now sheets) «sin_lat» «cos_lat» «fit_tol») (now w) ⌝ }
-    ensures { λ r. ⌜ (record { set = now (set .exit); how = r } ≡ lmLoop (lent (now (names .entry)) (now (fixed .entry)) (now (set .entry)) (now (dh .entry)) (now (dd .entry)) (now (pier .entry)) (now (sheets .entry)) «sin_lat» «cos_lat» «fit_tol») options) × Within (lent (now (names .entry)) (now (fixed .entry)) (now (set .entry)) (now (dh .entry)) (now (dd .entry)) (now (pier .entry)) (now (sheets .entry)) «sin_lat» «cos_lat» «fit_tol») (now (w .entry)) (now (w .exit)) ⌝ }
+    ensures { λ r. ⌜ (record { set = now (set .exit); how = r } ≡ lmLoop (lent (now (names .entry)) (now (fixed .entry)) (now (set .entry)) (now (dh .entry)) (now (dd .entry)) (now (pier .entry)) (now (sheets .entry)) «sin_lat» «cos_lat» «fit_tol») options) × Within (lent (now (names .entry)) (now (fixed .entry)) (now (set .entry)) (now (dh .entry)) (now (dd .entry)) (now (pier .entry)) (now (sheets .entry)) «sin_lat» «cos_lat» «fit_tol») (now (w .entry)) (now (w .exit)) × Left (lent (now (names .entry)) (now (fixed .entry)) (now (set .exit)) (now (dh .entry)) (now (dd .entry)) (now (pier .entry)) (now (sheets .entry)) «sin_lat» «cos_lat» «fit_tol») (now (w .exit)) ⌝ }
 {
     let limit = options.max_iter;
     let mut chi2 = lm_system::chi2_at_state(
@@ -230,6 +244,12 @@ fn run_lm_loop(
     }
 }
 
+// The chi-square of the set after the last trial, and the solver's answer.
+struct LastTrial {
+    pub chi2: f64,
+    pub solved: SolveOutcome,
+}
+
 // The last, undamped trial, kept where it is not above. It leaves at 2·n the residuals of its step, kept or not.
 fn apply_final_step(
     names: &[u8],
@@ -245,9 +265,9 @@ fn apply_final_step(
     chi2: f64,
     set: &mut [f64],
     w: &mut [f64],
-) -> SolveOutcome
-    requires { ⌜ Fits (lent (now names) (now fixed) (now set) (now dh) (now dd) (now pier) (now sheets) «sin_lat» «cos_lat» «fit_tol») (now w) ⌝ }
-    ensures { λ r. ⌜ LastTried (lent (now (names .entry)) (now (fixed .entry)) (now (set .entry)) (now (dh .entry)) (now (dd .entry)) (now (pier .entry)) (now (sheets .entry)) «sin_lat» «cos_lat» «fit_tol») options chi2 (now (set .entry)) (now (w .entry)) (now (w .exit)) (now (set .exit)) r ⌝ }
+) -> LastTrial
+    requires { ⌜ Fits (lent (now names) (now fixed) (now set) (now dh) (now dd) (now pier) (now sheets) «sin_lat» «cos_lat» «fit_tol») (now w) × Left (lent (now names) (now fixed) (now set) (now dh) (now dd) (now pier) (now sheets) «sin_lat» «cos_lat» «fit_tol») (now w) ⌝ }
+    ensures { λ r. ⌜ LastTried (lent (now (names .entry)) (now (fixed .entry)) (now (set .entry)) (now (dh .entry)) (now (dd .entry)) (now (pier .entry)) (now (sheets .entry)) «sin_lat» «cos_lat» «fit_tol») options chi2 (now (set .entry)) (now (w .entry)) (now (w .exit)) (now (set .exit)) (r .chi2) (r .solved) ⌝ }
 {
     let m = set.len();
     let k = lm_system::huber_threshold(dh.len(), fixed, options, chi2);
@@ -269,16 +289,22 @@ fn apply_final_step(
     let solved = last.solved;
     let x = solved.x;
     let trial = last.set;
+    let mut least = chi2;
     if last.chi2 <= chi2 {
         outcome::copy(&trial, m, set);
+        least = last.chi2;
     }
     outcome::free_residuals(names, fixed, pier, sheets, sin_lat, cos_lat, k, &x, w);
-    solved
+    LastTrial {
+        chi2: least,
+        solved,
+    }
 }
 
-// The set that the fit comes to, with zeros after it, how the loop went, and the solver's last answer.
+// The set that the fit comes to, with zeros after it, its chi-square, how the loop went, and the solver's last answer.
 struct FittedSet {
     pub set: [f64; 32],
+    pub chi2: f64,
     pub lm: LmLoopResult,
     pub solved: SolveOutcome,
 }
@@ -307,44 +333,6 @@ fn changes(set: &[f64], start: &[f64]) -> [f64; 32]
     change
 }
 
-// What is left on the sky under a set.
-fn on_the_sky(
-    names: &[u8],
-    fixed: &[u8],
-    set: &[f64],
-    dh: &[f64],
-    dd: &[f64],
-    pier: &[u8],
-    sheets: &[f64],
-    sin_lat: f64,
-    cos_lat: f64,
-    fit_tol: f64,
-    free: usize,
-    w: &mut [f64],
-) -> Sky
-    requires { ⌜ Fits (lent (now names) (now fixed) (now set) (now dh) (now dd) (now pier) (now sheets) «sin_lat» «cos_lat» «fit_tol») (now w) ⌝ }
-    ensures { λ r. ⌜ (r ≡ skyFrom (length (now (dh .entry))) (cosDecs (lent (now (names .entry)) (now (fixed .entry)) (now (set .entry)) (now (dh .entry)) (now (dd .entry)) (now (pier .entry)) (now (sheets .entry)) «sin_lat» «cos_lat» «fit_tol»)) free (residuals (lent (now (names .entry)) (now (fixed .entry)) (now (set .entry)) (now (dh .entry)) (now (dd .entry)) (now (pier .entry)) (now (sheets .entry)) «sin_lat» «cos_lat» «fit_tol»)))
-        × Only 0 (4 * length (now (dh .entry))) (now (w .entry)) (now (w .exit)) ⌝ }
-{
-    lm_system::residuals_under_state(
-        names,
-        fixed,
-        set,
-        dh,
-        dd,
-        pier,
-        sheets,
-        sin_lat,
-        cos_lat,
-        fit_tol,
-        w,
-    );
-    let n = dh.len();
-    let rows = 2 * n;
-    let v = &w[..];
-    stats::on_the_sky(sheets, &v[rows..rows + rows], n, free)
-}
-
 // The search for the set: from the coefficients as lent through the loop and the last trial, whose residuals it leaves at 2·n.
 fn fit_set(
     names: &[u8],
@@ -361,7 +349,7 @@ fn fit_set(
     w: &mut [f64],
 ) -> FittedSet
     requires { ⌜ Fits (lent (now names) (now fixed) (now coefficients) (now dh) (now dd) (now pier) (now sheets) «sin_lat» «cos_lat» «fit_tol») (now w) ⌝ }
-    ensures { λ r. ⌜ Searched (lent (now (names .entry)) (now (fixed .entry)) (now (coefficients .entry)) (now (dh .entry)) (now (dd .entry)) (now (pier .entry)) (now (sheets .entry)) «sin_lat» «cos_lat» «fit_tol») options (now (w .entry)) (now (w .exit)) (r .set) (r .lm) (r .solved) ⌝ }
+    ensures { λ r. ⌜ Searched (lent (now (names .entry)) (now (fixed .entry)) (now (coefficients .entry)) (now (dh .entry)) (now (dd .entry)) (now (pier .entry)) (now (sheets .entry)) «sin_lat» «cos_lat» «fit_tol») options (now (w .entry)) (now (w .exit)) (r .set) (r .chi2) (r .lm) (r .solved) ⌝ }
 {
     let m = coefficients.len();
     let mut set = padded(coefficients);
@@ -379,7 +367,7 @@ fn fit_set(
         &mut set[..m],
         w,
     );
-    let solved = apply_final_step(
+    let last = apply_final_step(
         names,
         fixed,
         dh,
@@ -394,7 +382,13 @@ fn fit_set(
         &mut set[..m],
         w,
     );
-    FittedSet { set, lm, solved }
+    let solved = last.solved;
+    FittedSet {
+        set,
+        chi2: last.chi2,
+        lm,
+        solved,
+    }
 }
 
 // A fit whose questions are all passed.
@@ -448,20 +442,7 @@ fn fit(
     outcome::copy(&set, m, out);
     outcome::copy(&moved, m, change);
     outcome::statistics(fixed, n, m, solved, scratch, sigma, diagnostics);
-    let sky = on_the_sky(
-        names,
-        fixed,
-        &set[..m],
-        dh,
-        dd,
-        pier,
-        sheets,
-        sin_lat,
-        cos_lat,
-        fit_tol,
-        free,
-        scratch,
-    );
+    let sky = stats::sky_of_sum(fitted.chi2, n, free);
     sequence::fill(&mut scratch[..need], 0.0);
     FitResult {
         sky_rms: sky.rms,

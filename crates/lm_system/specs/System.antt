@@ -119,7 +119,13 @@ stepNorm names fixed x =
     let most = largest names fixed x in
     cond (eq most #0) (sqrt (sumTo (freeCount fixed) (λ i. at x i ⊗ at x i)) ⊘ radian) most
 
--- ---- what a step leaves: the solver's answer with its columns, b, and the residuals that its weights belong to
+-- ---- what the functions count on and leave
+
+-- the residuals of the set in hand lie at 2·n
+abbrev pub Left : Lent → List Float → Type 0
+Left l w = part w (2 * length (l .dh)) (2 * length (l .dh)) ≡ residuals l
+
+-- a step leaves the solver's answer with its columns, b, and the residuals that its weights belong to
 
 pub record LmStepped (l : Lent) (k lambda : Float) (w₀ w : List Float) (o : SolveOutcome) : Type 0 where
   pub solution : record { outcome = o; w = part w (8 * length (l .dh)) (freeCount (l .fixed) * heightOf l) } ≡ lmStep l k lambda

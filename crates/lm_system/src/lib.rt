@@ -7,9 +7,11 @@ ghost use lib.ListN.{length};
 ghost use Rattle.float.specs.Float.{_⊗_};
 ghost use Rattle.sequence.specs.Sequence.{at, part, filled, sumTo, Only};
 ghost use Rattle.column.specs.Column.{zeros};
+ghost use Rattle.design.specs.Design.{sheetAt, cosDec, weighing};
+ghost use Rattle.design.specs.Filled.{skyRows};
 ghost use Rattle.validate.specs.Call.{lent};
 ghost use Rattle.outcome.specs.Outcome.{Fits};
-ghost use Rattle.lm_system.specs.System.{residuals as residualsOf, chi2Of, skyResiduals, weighedResiduals, movedAt, rotates as rotatesOf, rotational as rotationalOf, larger as largerOf, largest as largestOf, stepNorm, huberFrom, LmStepped};
+ghost use Rattle.lm_system.specs.System.{residuals as residualsOf, chi2Of, Left, movedAt, rotates as rotatesOf, rotational as rotationalOf, larger as largerOf, largest as largestOf, stepNorm, huberFrom, LmStepped};
 use equatorial::EquatorialTerm;
 use linalg::SolveOutcome;
 use solver::IterOptions;
@@ -39,7 +41,7 @@ pub fn residuals_under_state(
     design::subtract_from_differences(dh, dd, &mut w[rows..rows + rows]);
 }
 
-// The chi-square of a set.
+// The chi-square of a set, whose residuals it leaves at 2·n.
 pub fn chi2_at_state(
     names: &[u8],
     fixed: &[u8],
@@ -54,8 +56,7 @@ pub fn chi2_at_state(
     w: &mut [f64],
 ) -> f64
     requires { ⌜ Fits (lent (now names) (now fixed) (now set) (now dh) (now dd) (now pier) (now sheets) «sin_lat» «cos_lat» «fit_tol») (now w) ⌝ }
-    ensures { λ r. ⌜ (r ≡ chi2Of (lent (now (names .entry)) (now (fixed .entry)) (now (set .entry)) (now (dh .entry)) (now (dd .entry)) (now (pier .entry)) (now (sheets .entry)) «sin_lat» «cos_lat» «fit_tol»))
-        × Only 0 (4 * length (now (dh .entry))) (now (w .entry)) (now (w .exit)) ⌝ }
+    ensures { λ r. ⌜ (r ≡ chi2Of (lent (now (names .entry)) (now (fixed .entry)) (now (set .entry)) (now (dh .entry)) (now (dd .entry)) (now (pier .entry)) (now (sheets .entry)) «sin_lat» «cos_lat» «fit_tol»)) × Left (lent (now (names .entry)) (now (fixed .entry)) (now (set .entry)) (now (dh .entry)) (now (dd .entry)) (now (pier .entry)) (now (sheets .entry)) «sin_lat» «cos_lat» «fit_tol») (now (w .exit)) × Only 0 (4 * length (now (dh .entry))) (now (w .entry)) (now (w .exit)) ⌝ }
 {
     residuals_under_state(
         names,
@@ -91,52 +92,23 @@ pub fn huber_threshold(n: usize, fixed: &[u8], options: IterOptions, chi2: f64) 
     0.0
 }
 
-// At 6·n the residuals on the sky, and at 4·n the same weighed: b.
-fn weighed_residuals(
-    names: &[u8],
-    fixed: &[u8],
-    set: &[f64],
-    dh: &[f64],
-    dd: &[f64],
-    pier: &[u8],
-    sheets: &[f64],
-    sin_lat: f64,
-    cos_lat: f64,
-    fit_tol: f64,
-    k: f64,
-    w: &mut [f64],
-)
-    requires { ⌜ Fits (lent (now names) (now fixed) (now set) (now dh) (now dd) (now pier) (now sheets) «sin_lat» «cos_lat» «fit_tol») (now w) ⌝ }
-    ensures { λ _. ⌜ (part (now (w .exit)) (6 * length (now (dh .entry))) (2 * length (now (dh .entry)))
-        ≡ skyResiduals (lent (now (names .entry)) (now (fixed .entry)) (now (set .entry)) (now (dh .entry)) (now (dd .entry)) (now (pier .entry)) (now (sheets .entry)) «sin_lat» «cos_lat» «fit_tol»))
-        × (part (now (w .exit)) (4 * length (now (dh .entry))) (2 * length (now (dh .entry)))
-        ≡ weighedResiduals (lent (now (names .entry)) (now (fixed .entry)) (now (set .entry)) (now (dh .entry)) (now (dd .entry)) (now (pier .entry)) (now (sheets .entry)) «sin_lat» «cos_lat» «fit_tol») k)
-        × Only 0 (8 * length (now (dh .entry))) (now (w .entry)) (now (w .exit)) ⌝ }
+// Of n stars' residuals at 2·n: at 6·n those on the sky, and at 4·n the same weighed, b.
+fn weighed_residuals(sheets: &[f64], n: usize, k: f64, w: &mut [f64])
+    requires { ⌜ (n ≤ 1024) × (length (now sheets) ≡ 37 * n) × (8 * n ≤ length (now w)) ⌝ }
+    ensures { λ _. ⌜ (part (now (w .exit)) (6 * n) (2 * n) ≡ skyRows n (λ i. cosDec (sheetAt (now (sheets .entry)) i)) (part (now (w .entry)) (2 * n) (2 * n)))
+        × (part (now (w .exit)) (4 * n) (2 * n) ≡ weighing k (part (now (w .exit)) (6 * n) (2 * n)) (part (now (w .exit)) (6 * n) (2 * n)))
+        × Only (4 * n) (4 * n) (now (w .entry)) (now (w .exit)) ⌝ }
 {
-    residuals_under_state(
-        names,
-        fixed,
-        set,
-        dh,
-        dd,
-        pier,
-        sheets,
-        sin_lat,
-        cos_lat,
-        fit_tol,
-        w,
-    );
-    let n = dh.len();
     let rows = 2 * n;
     let b = 4 * n;
     let r = 6 * n;
-    design::scale_ha_rows(sheets, n, &mut w[rows..rows + rows]);
     design::copy(w, rows, b, rows);
-    design::copy(w, rows, r, rows);
+    design::scale_ha_rows(sheets, n, &mut w[b..b + rows]);
+    design::copy(w, b, r, rows);
     design::weigh(w, b, r, rows, k);
 }
 
-// The solution of the system at a set: with the weights that belong to k, and with a damping. It leaves the residuals on the sky at 6·n, b at 4·n,
+// The solution of the system at a set, whose residuals lie at 2·n: with the weights that belong to k, and with a damping. It leaves the residuals on the sky at 6·n, b at 4·n,
 // and the solved columns at 8·n.
 pub fn lm_step(
     names: &[u8],
@@ -153,7 +125,7 @@ pub fn lm_step(
     lambda: f64,
     w: &mut [f64],
 ) -> SolveOutcome
-    requires { ⌜ Fits (lent (now names) (now fixed) (now set) (now dh) (now dd) (now pier) (now sheets) «sin_lat» «cos_lat» «fit_tol») (now w) ⌝ }
+    requires { ⌜ Fits (lent (now names) (now fixed) (now set) (now dh) (now dd) (now pier) (now sheets) «sin_lat» «cos_lat» «fit_tol») (now w) × Left (lent (now names) (now fixed) (now set) (now dh) (now dd) (now pier) (now sheets) «sin_lat» «cos_lat» «fit_tol») (now w) ⌝ }
     ensures { λ r. ⌜ LmStepped (lent (now (names .entry)) (now (fixed .entry)) (now (set .entry)) (now (dh .entry)) (now (dd .entry)) (now (pier .entry)) (now (sheets .entry)) «sin_lat» «cos_lat» «fit_tol») k lambda (now (w .entry)) (now (w .exit)) r ⌝ }
 {
     let n = dh.len();
@@ -162,20 +134,7 @@ pub fn lm_step(
     let b = 4 * n;
     let c = 8 * n;
     let free = design::free_count(fixed);
-    weighed_residuals(
-        names,
-        fixed,
-        set,
-        dh,
-        dd,
-        pier,
-        sheets,
-        sin_lat,
-        cos_lat,
-        fit_tol,
-        k,
-        w,
-    );
+    weighed_residuals(sheets, n, k, w);
     products::free_columns(names, fixed, pier, sheets, sin_lat, cos_lat, k, w, c, h);
     linalg::solve_damped(w, c, h, rows, free, b, lambda, fit_tol)
 }

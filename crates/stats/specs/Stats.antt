@@ -36,12 +36,19 @@ skySquare cosDec r i =
 unfoldable pub sumSqSky : ℕ → (ℕ → Float) → List Float → Float
 sumSqSky n cosDec r = sumTo n (skySquare cosDec r)
 
+-- the RMS of n stars, from that sum
+abbrev pub rmsOf : ℕ → Float → Float
+rmsOf n sum = cond (leb n 0) #0 (sqrt (sum ⊘ count n))
+
 unfoldable pub skyRms : ℕ → (ℕ → Float) → List Float → Float
-skyRms n cosDec r = cond (leb n 0) #0 (sqrt (sumSqSky n cosDec r ⊘ count n))
+skyRms n cosDec r = rmsOf n (sumSqSky n cosDec r)
 
 -- 0 where there are no more stars than free terms
+abbrev pub sdOf : ℕ → ℕ → Float → Float
+sdOf n nFree sum = cond (leb n nFree) #0 (sqrt (sum ⊘ count (n - nFree)))
+
 unfoldable pub popnSd : ℕ → (ℕ → Float) → List Float → ℕ → Float
-popnSd n cosDec r nFree = cond (leb n nFree) #0 (sqrt (sumSqSky n cosDec r ⊘ count (n - nFree)))
+popnSd n cosDec r nFree = sdOf n nFree (sumSqSky n cosDec r)
 
 -- both
 abbrev pub skyFrom : ℕ → (ℕ → Float) → ℕ → List Float → Sky

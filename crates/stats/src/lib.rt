@@ -6,7 +6,7 @@ ghost use lib.ListN.{length, replicate};
 ghost use Rattle.float.specs.Float.{#0};
 ghost use Rattle.sequence.specs.Sequence.{filled, dot as dotOf};
 ghost use Rattle.design.specs.Design.{sheetAt, cosDec};
-ghost use Rattle.stats.specs.Stats.{degrees as degreesOf, sumSqSky, skyRms, popnSd, skyFrom, variance as varianceOf, sigmaAt, clamped as clampedOf, studentizedRow, diagnostic as diagnosticOf};
+ghost use Rattle.stats.specs.Stats.{degrees as degreesOf, sumSqSky, rmsOf, sdOf, skyFrom, variance as varianceOf, sigmaAt, clamped as clampedOf, studentizedRow, diagnostic as diagnosticOf};
 use solver::ObsDiagnostic;
 
 // What is left on the sky.
@@ -29,34 +29,42 @@ pub fn sum_sq_sky(sheets: &[f64], r: &[f64], n: usize) -> f64
     sum
 }
 
-fn compute_sky_rms(sheets: &[f64], r: &[f64], n: usize) -> f64
-    requires { ⌜ (n ≤ 1024) × (length (now sheets) ≡ 37 * n) × (length (now r) ≡ 2 * n) ⌝ }
-    ensures { λ s. ⌜ s ≡ skyRms n (λ i. cosDec (sheetAt (now (sheets .entry)) i)) (now (r .entry)) ⌝ }
+fn compute_sky_rms(sum: f64, n: usize) -> f64
+    requires { ⌜ n ≤ 1024 ⌝ }
+    ensures { λ r. ⌜ r ≡ rmsOf n sum ⌝ }
 {
     if n == 0 {
         return 0.0;
     }
-    sqrt::sqrt(sum_sq_sky(sheets, r, n) / n as f64)
+    sqrt::sqrt(sum / n as f64)
 }
 
-fn compute_popn_sd(sheets: &[f64], r: &[f64], n: usize, n_free: usize) -> f64
-    requires { ⌜ (n ≤ 1024) × (length (now sheets) ≡ 37 * n) × (length (now r) ≡ 2 * n) ⌝ }
-    ensures { λ s. ⌜ s ≡ popnSd n (λ i. cosDec (sheetAt (now (sheets .entry)) i)) (now (r .entry)) «n_free» ⌝ }
+fn compute_popn_sd(sum: f64, n: usize, n_free: usize) -> f64
+    requires { ⌜ n ≤ 1024 ⌝ }
+    ensures { λ r. ⌜ r ≡ sdOf n «n_free» sum ⌝ }
 {
     if n <= n_free {
         return 0.0;
     }
-    sqrt::sqrt(sum_sq_sky(sheets, r, n) / (n - n_free) as f64)
+    sqrt::sqrt(sum / (n - n_free) as f64)
 }
 
-// Of n stars' residuals, where n_free terms are free.
+// Of n stars, from that sum, where n_free terms are free.
+pub fn sky_of_sum(sum: f64, n: usize, n_free: usize) -> Sky
+    requires { ⌜ n ≤ 1024 ⌝ }
+    ensures { λ r. ⌜ r ≡ record { rms = rmsOf n sum; «popn_sd» = sdOf n «n_free» sum } ⌝ }
+{
+    let rms = compute_sky_rms(sum, n);
+    let popn_sd = compute_popn_sd(sum, n, n_free);
+    Sky { rms, popn_sd }
+}
+
+// The same from the residuals.
 pub fn on_the_sky(sheets: &[f64], r: &[f64], n: usize, n_free: usize) -> Sky
     requires { ⌜ (n ≤ 1024) × (length (now sheets) ≡ 37 * n) × (length (now r) ≡ 2 * n) ⌝ }
     ensures { λ s. ⌜ s ≡ skyFrom n (λ i. cosDec (sheetAt (now (sheets .entry)) i)) «n_free» (now (r .entry)) ⌝ }
 {
-    let rms = compute_sky_rms(sheets, r, n);
-    let popn_sd = compute_popn_sd(sheets, r, n, n_free);
-    Sky { rms, popn_sd }
+    sky_of_sum(sum_sq_sky(sheets, r, n), n, n_free)
 }
 
 // The sum of the squares of r.

@@ -13,18 +13,18 @@ huber-threshold-requires : tie.Need-huber-threshold-requires
 huber-threshold-requires c κs = search needs
 
 propose-requires : tie.Need-propose-requires
-propose-requires c κs = search needs
+propose-requires c κs = c .before .before .before .before .before .before .before .before .before .before .before .pre
 
 copy-requires : tie.Need-copy-requires
-copy-requires c κs = let s = c .before .before .before .before .before .before .before .before .before .before .before .before .before .before .before .before .before .before .before .before .before in (omega (arith, s .pre .terms), omega arith)
+copy-requires c κs = let s = c .before .before .before .before .before .before .before .before .before .before .before .before .before .before .before .before .before .before .before .before .before in (omega (arith, s .pre .0 .terms), omega arith)
 
 free-residuals-requires : tie.Need-free-residuals-requires
 free-residuals-requires c κs =
     let s = c .before .before .before .before .before .before .before .before .before .before .before .before .before .before .before .before .before .before .before .before .before in (
-      record { few = omega (arith, s .pre .names-count, s .pre .terms); stars = omega (arith, s .pre .pier-count, s .pre .stars); sheets-count = omega (arith, s .pre .pier-count, s .pre .sheets-count) },
-      omega (arith, s .pre .terms, s .pre .fixed-count),
-      omega (arith, s .pre .names-count, s .pre .fixed-count),
-      omega (arith, s .pre .pier-count, s .pre .room, c .before .before .before .before .before .before .before .before .before .propose .ensures .step .only .long),
+      record { few = omega (arith, s .pre .0 .names-count, s .pre .0 .terms); stars = omega (arith, s .pre .0 .pier-count, s .pre .0 .stars); sheets-count = omega (arith, s .pre .0 .pier-count, s .pre .0 .sheets-count) },
+      omega (arith, s .pre .0 .terms, s .pre .0 .fixed-count),
+      omega (arith, s .pre .0 .names-count, s .pre .0 .fixed-count),
+      omega (arith, s .pre .0 .pier-count, s .pre .0 .room, c .before .before .before .before .before .before .before .before .before .propose .ensures .step .only .long),
     )
 
 same-length : tie.Need-same-length
@@ -46,10 +46,14 @@ returns c =
     let f = c .before .before .free-residuals in
     let l = (lent (a .names .now) (a .fixed .now) (a .set .now) (a .dh .now) (a .dd .now) (a .pier .now) (a .sheets .now) (a .sin-lat) (a .cos-lat) (a .fit-tol)) in
     let w₁ = last .last .1 .1 .1 .1 .1 .1 .1 .1 .1 .1 .1 .1 .0 in
-    tried-last l (a .options) (a .chi2) (k .result) (k .ensures) (a .w .now) w₁ _ (last .result .set) (last .result .chi2) (last .result .solved) (s .pre) (last .ensures) (f .ensures) _
+    tried-last l (a .options) (a .chi2) (k .result) (k .ensures) (a .w .now) w₁ _ (last .result .set) (last .result .chi2) (last .result .solved) (s .pre .0) (last .ensures) (f .ensures) _ _
     (elim (c .before .before .before .before .before .if1 .came) [
-      | inl v ↦ v .6 ∙ last-kept l (a .options) (a .chi2) (k .result) (k .ensures) (a .w .now) w₁ _ (last .result .set) (last .result .chi2) (last .result .solved) (s .pre) (last .ensures) (f .ensures) _ (v .0 .taken) (v .3 .ensures)
-      | inr v ↦ last-not l (a .options) (a .chi2) (k .result) (k .ensures) (a .w .now) w₁ _ (last .result .set) (last .result .chi2) (last .result .solved) (s .pre) (last .ensures) (f .ensures) _ (v .0 .left) (v .1)
+      | inl v ↦
+          let q = last-kept l (a .options) (a .chi2) (k .result) (k .ensures) (a .w .now) w₁ _ (last .result .set) (last .result .chi2) (last .result .solved) (s .pre .0) (last .ensures) (f .ensures) _ (v .0 .taken) (v .3 .ensures) in
+          (v .6 ∙ q .0, v .7 ∙ q .1)
+      | inr v ↦
+          let q = last-not l (a .options) (a .chi2) (k .result) (k .ensures) (a .w .now) w₁ _ (last .result .set) (last .result .chi2) (last .result .solved) (s .pre .0) (last .ensures) (f .ensures) _ (v .0 .left) (v .1) in
+          (q .0, v .2 ∙ q .1)
     ])
 
 pub apply-final-step-spec : {M : Type 1} → statement M

@@ -2,9 +2,13 @@
 use mathlib.Core.Path.{_≡_, refl, sym, ap, _∙_}
 use native.Mathlib.Omega.{arith}
 use lib.ListN.{length}
+use mathlib.Core.List.{List}
+use lib.Ieee.{Float}
 use Rattle.validate.specs.Call.{lent}
+use Rattle.lm_system.specs.System.{residuals}
+use Rattle.iterated.specs.Iterated.{under}
 use Rattle.iterated.proofs.Laws.{fits-under}
-use Rattle.iterated.proofs.Search.{front-is, array-long, back-count, back-array, searches}
+use Rattle.iterated.proofs.Search.{front-is, array-long, back-front, back-count, back-array, searches}
 use borrow.Author.Needs.{needs}
 use Rattle.iterated.proofs.fit_set.Statement.{statement}
 use Rattle.iterated.proofs.fit_set.Tie as tie
@@ -46,19 +50,24 @@ apply-final-step-requires c κs =
     let cs = a .coefficients .now in
     let p = c .before .before .before .before .before .before .before .before .padded in
     let r = c .before .before .before .before .before .run-lm-loop in
-    fits-under (lent (a .names .now) (a .fixed .now) (a .coefficients .now) (a .dh .now) (a .dd .now) (a .pier .now) (a .sheets .now) (a .sin-lat) (a .cos-lat) (a .fit-tol)) _ (a .w .now) _ (s .pre) (back-count (length cs) (p .result) (r .last .1 .1 .1 .1 .1 .1 .1 .1 .1 .1 .0) (s .pre .terms) (array-long cs (p .result) (s .pre .terms) (p .ensures)) (r .kept .1 .1 .1 .1 .1 .1 .1 .1 .1 .1 .0)) (r .ensures .1 .long)
+    let ys = r .last .1 .1 .1 .1 .1 .1 .1 .1 .1 .1 .0 in
+    let kept = r .kept .1 .1 .1 .1 .1 .1 .1 .1 .1 .1 .0 in
+    let long = array-long cs (p .result) (s .pre .terms) (p .ensures) in (
+      fits-under (lent (a .names .now) (a .fixed .now) (a .coefficients .now) (a .dh .now) (a .dd .now) (a .pier .now) (a .sheets .now) (a .sin-lat) (a .cos-lat) (a .fit-tol)) _ (a .w .now) _ (s .pre) (back-count (length cs) (p .result) ys (s .pre .terms) long kept) (r .ensures .1 .long),
+      r .ensures .2 ∙ ap (λ (z : List Float). residuals (under (lent (a .names .now) (a .fixed .now) (a .coefficients .now) (a .dh .now) (a .dd .now) (a .pier .now) (a .sheets .now) (a .sin-lat) (a .cos-lat) (a .fit-tol)) z)) (sym (back-front (length cs) (p .result) ys (s .pre .terms) long kept)),
+    )
 
 same-length : tie.Need-same-length
 same-length c = search needs
 
 returns : tie.Need-returns
 returns c =
-    let s = c .before .before .before .before .before .before .before .before .before .before .before .before .before .before .before .before .before .before .before .before .before in
+    let s = c .before .before .before .before .before .before .before .before .before .before .before .before .before .before .before .before .before .before .before .before .before .before in
     let a = s .args in
-    let p = c .before .before .before .before .before .before .before .before .before .before .before .before .padded in
-    let r = c .before .before .before .before .before .before .before .before .before .run-lm-loop in
-    let t = c .before .before .before .apply-final-step in
-    searches (lent (a .names .now) (a .fixed .now) (a .coefficients .now) (a .dh .now) (a .dd .now) (a .pier .now) (a .sheets .now) (a .sin-lat) (a .cos-lat) (a .fit-tol)) (a .options) (p .result) (r .last .1 .1 .1 .1 .1 .1 .1 .1 .1 .1 .0) (t .last .1 .1 .1 .1 .1 .1 .1 .1 .1 .1 .1 .0) (a .w .now) (r .last .1 .1 .1 .1 .1 .1 .1 .1 .1 .1 .1 .0) _ (r .result) (t .result) (s .pre) (p .ensures)
+    let p = c .before .before .before .before .before .before .before .before .before .before .before .before .before .padded in
+    let r = c .before .before .before .before .before .before .before .before .before .before .run-lm-loop in
+    let t = c .before .before .before .before .apply-final-step in
+    searches (lent (a .names .now) (a .fixed .now) (a .coefficients .now) (a .dh .now) (a .dd .now) (a .pier .now) (a .sheets .now) (a .sin-lat) (a .cos-lat) (a .fit-tol)) (a .options) (p .result) (r .last .1 .1 .1 .1 .1 .1 .1 .1 .1 .1 .0) (t .last .1 .1 .1 .1 .1 .1 .1 .1 .1 .1 .1 .0) (a .w .now) (r .last .1 .1 .1 .1 .1 .1 .1 .1 .1 .1 .1 .0) _ (r .result) (t .result .chi2) (t .result .solved) (s .pre) (p .ensures)
     (r .kept .1 .1 .1 .1 .1 .1 .1 .1 .1 .1 .0) (r .ensures) (t .kept .1 .1 .1 .1 .1 .1 .1 .1 .1 .1 .1 .0) (t .ensures)
 
 pub fit-set-spec : {M : Type 1} → statement M

@@ -29,19 +29,19 @@ free-count-requires : tie.Need-free-count-requires
 free-count-requires c κs = search needs
 
 weighed-residuals-requires : tie.Need-weighed-residuals-requires
-weighed-residuals-requires c κs = search needs
+weighed-residuals-requires c κs = let s = c .before .before .before .before .before .before .before .before .before .before in (s .pre .0 .stars, s .pre .0 .sheets-count, omega (arith, s .pre .0 .room))
 
 free-columns-requires : tie.Need-free-columns-requires
 free-columns-requires c κs =
     let weighed = c .before .before .before in
     let s = c .before .before .before .before .before .before .before .before .before .before .before .before .before .before in
     let a = s .args in (
-      record { few = omega (arith, s .pre .names-count, s .pre .terms); stars = omega (arith, s .pre .pier-count, s .pre .stars); sheets-count = omega (arith, s .pre .pier-count, s .pre .sheets-count) },
-      omega (arith, s .pre .terms, s .pre .fixed-count),
-      omega (arith, s .pre .names-count, s .pre .fixed-count),
-      omega (arith, s .pre .pier-count),
-      omega (arith, s .pre .pier-count),
-      columns-room (lent (a .names .now) (a .fixed .now) (a .set .now) (a .dh .now) (a .dd .now) (a .pier .now) (a .sheets .now) (a .sin-lat) (a .cos-lat) (a .fit-tol)) (a .w .now) (weighed .weighed-residuals .last .1 .1 .1 .1 .1 .1 .1 .1 .1 .1 .1 .0) (s .pre) (weighed .weighed-residuals .ensures .2 .long),
+      record { few = omega (arith, s .pre .0 .names-count, s .pre .0 .terms); stars = omega (arith, s .pre .0 .pier-count, s .pre .0 .stars); sheets-count = omega (arith, s .pre .0 .pier-count, s .pre .0 .sheets-count) },
+      omega (arith, s .pre .0 .terms, s .pre .0 .fixed-count),
+      omega (arith, s .pre .0 .names-count, s .pre .0 .fixed-count),
+      omega (arith, s .pre .0 .pier-count),
+      omega (arith, s .pre .0 .pier-count),
+      columns-room (lent (a .names .now) (a .fixed .now) (a .set .now) (a .dh .now) (a .dd .now) (a .pier .now) (a .sheets .now) (a .sin-lat) (a .cos-lat) (a .fit-tol)) (a .w .now) (weighed .weighed-residuals .last .1 .1 .1 .0) (s .pre .0) (weighed .weighed-residuals .ensures .2 .long),
     )
 
 solve-damped-requires : tie.Need-solve-damped-requires
@@ -52,7 +52,7 @@ solve-damped-requires c κs =
     let s = c .before .before .before .before .before .before .before .before .before .before .before .before .before .before .before .before .before .before in
     let a = s .args in
     let long = laid .free-columns .ensures .1 .long ∙ weighed .weighed-residuals .ensures .2 .long in
-    let r = solve-ready (lent (a .names .now) (a .fixed .now) (a .set .now) (a .dh .now) (a .dd .now) (a .pier .now) (a .sheets .now) (a .sin-lat) (a .cos-lat) (a .fit-tol)) (a .w .now) (laid .free-columns .last .1 .1 .1 .1 .1 .1 .1 .0) (counted .free-count .result) (s .pre) long (counted .free-count .ensures) in
+    let r = solve-ready (lent (a .names .now) (a .fixed .now) (a .set .now) (a .dh .now) (a .dd .now) (a .pier .now) (a .sheets .now) (a .sin-lat) (a .cos-lat) (a .fit-tol)) (a .w .now) (laid .free-columns .last .1 .1 .1 .1 .1 .1 .1 .0) (counted .free-count .result) (s .pre .0) long (counted .free-count .ensures) in
     (r .0, r .1, omega (arith, r .2), r .3, omega arith)
 
 same-length : tie.Need-same-length
@@ -65,7 +65,7 @@ returns c =
     let counted = c .before .before .before .before .before .before .before .before .before .before .before .before in
     let s = c .before .before .before .before .before .before .before .before .before .before .before .before .before .before .before .before .before .before .before .before .before in
     let a = s .args in
-    stepped (lent (a .names .now) (a .fixed .now) (a .set .now) (a .dh .now) (a .dd .now) (a .pier .now) (a .sheets .now) (a .sin-lat) (a .cos-lat) (a .fit-tol)) (a .w .now) (s .pre) (weighed .weighed-residuals .last .1 .1 .1 .1 .1 .1 .1 .1 .1 .1 .1 .0) (laid .free-columns .last .1 .1 .1 .1 .1 .1 .1 .0) _ (counted .free-count .result) (a .k) (a .lambda) _ (counted .free-count .ensures) (weighed .weighed-residuals .ensures) (laid .free-columns .ensures) (c .before .before .solve-damped .ensures)
+    stepped (lent (a .names .now) (a .fixed .now) (a .set .now) (a .dh .now) (a .dd .now) (a .pier .now) (a .sheets .now) (a .sin-lat) (a .cos-lat) (a .fit-tol)) (a .w .now) (s .pre .0) (weighed .weighed-residuals .last .1 .1 .1 .0) (laid .free-columns .last .1 .1 .1 .1 .1 .1 .1 .0) _ (counted .free-count .result) (a .k) (a .lambda) _ (s .pre .1) (counted .free-count .ensures) (weighed .weighed-residuals .ensures) (laid .free-columns .ensures) (c .before .before .solve-damped .ensures)
 
 pub lm-step-spec : {M : Type 1} → statement M
 lm-step-spec =

@@ -3,7 +3,6 @@ use Prim.Native.Nat.{ℕ, _-_, _≤_, _<_}
 use mathlib.Core.Path.{_≡_, refl, _∙_}
 use borrow.Author.Tests.{le-leb, lt-leb}
 use Rattle.float.proofs.Bits.{whole-in}
-use Rattle.stats.specs.Stats.{skyRms}
 use borrow.Author.Needs.{needs}
 use native.Mathlib.Omega.{arith}
 use Rattle.stats.proofs.compute_sky_rms.Statement.{statement}
@@ -16,22 +15,17 @@ pos-of : {n : ℕ} → (n ≡ 0 → ⊥) → 0 < n
 pos-of h = omega arith
 
 returns : tie.Need-returns
-unfolding skyRms
 returns c = rw (le-leb _ _ (zero-le-of (c .if1 .taken))) refl
 
-sum-sq-sky-requires : tie.Need-sum-sq-sky-requires
-sum-sq-sky-requires c κs = search needs
-
 int-to-float-sqrt : tie.Need-int-to-float-sqrt
-int-to-float-sqrt c = whole-in (c .before .before .before .before .before .args .n) (omega arith)
+int-to-float-sqrt c = whole-in (c .before .before .args .n) (omega arith)
 
 sqrt-requires : tie.Need-sqrt-requires
 sqrt-requires c κs = search needs
 
 returns-2 : tie.Need-returns-2
-unfolding skyRms
-returns-2 c = c .sqrt .ensures ∙ rw (lt-leb _ _ (pos-of (c .before .before .before .if1 .left)), c .before .before .sum-sq-sky .ensures) refl
+returns-2 c = c .sqrt .ensures ∙ rw (lt-leb _ _ (pos-of (c .before .before .if1 .left))) refl
 
 pub compute-sky-rms-spec : {M : Type 1} → statement M
 compute-sky-rms-spec =
-    tie.close (tie.spec returns sum-sq-sky-requires int-to-float-sqrt sqrt-requires returns-2)
+    tie.close (tie.spec returns int-to-float-sqrt sqrt-requires returns-2)
