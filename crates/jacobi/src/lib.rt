@@ -24,22 +24,23 @@ pub struct Sweeps {
     pub settled: bool,
 }
 
-// The three sums of the n numbers from x on and the n from y on, in one pass, each in its own order.
+// The three sums of the n numbers from x on and the n from y on, in one pass, each in its own order. With
+// gamma first the compiler adds the two norms as one vector.
 fn sums(w: &[f64], x: usize, y: usize, n: usize) -> Products
     requires { ⌜ (x + n ≤ length (now w)) × (y + n ≤ length (now w)) ⌝ }
     ensures { λ r. ⌜ r ≡ (let p = part (now (w .entry)) x n in
         let q = part (now (w .entry)) y n in
         record { alpha = dot p p; beta = dot q q; gamma = dot p q }) ⌝ }
 {
+    let mut gamma = 0.0;
     let mut alpha = 0.0;
     let mut beta = 0.0;
-    let mut gamma = 0.0;
     for k in 0..n {
         let p = w[x + k];
         let q = w[y + k];
+        gamma = gamma + p * q;
         alpha = alpha + p * p;
         beta = beta + q * q;
-        gamma = gamma + p * q;
     }
     Products { alpha, beta, gamma }
 }
@@ -67,11 +68,15 @@ fn tangent(alpha: f64, beta: f64, gamma: f64) -> f64
     if zeta < 0.0 { -t } else { t }
 }
 
-// c from t.
+// c from t. Where t is small the sum is 1, and so is its root.
 fn cosine(t: f64) -> f64
     ensures { λ r. ⌜ r ≡ cosOf t ⌝ }
 {
-    1.0 / sqrt::sqrt(1.0 + t * t)
+    let x = 1.0 + t * t;
+    if x == 1.0 {
+        return 1.0;
+    }
+    1.0 / sqrt::sqrt(x)
 }
 
 // Columns p and q: whether they turned. The number compared with is 2^-100.
