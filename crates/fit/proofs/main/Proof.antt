@@ -15,6 +15,9 @@ slice-aggregate-read-full c = search needs
 read-full-requires : tie.Need-read-full-requires
 read-full-requires c κs = search needs
 
+read-on-requires : tie.Need-read-on-requires
+read-on-requires c κs = search needs
+
 array-share-prefix-file : tie.Need-array-share-prefix-file
 array-share-prefix-file c = search needs
 
@@ -46,6 +49,7 @@ main-spec =
     file-room-requires
     slice-aggregate-read-full
     read-full-requires
+    read-on-requires
     array-share-prefix-file
     slice-aggregate-list
     slice-aggregate-list-2
