@@ -1,1 +1,4 @@
-pub mod Fits
+pub mod Answered
+pub mod Asked
+pub mod Few
+pub mod Mapped

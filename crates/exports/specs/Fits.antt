@@ -1,24 +1,11 @@
--- A fit's options and its answer as C structs. Definitions only.
+-- A fit's answer as a C struct. Definitions only.
 use Prim.Native.Nat.{ℕ}
 use mathlib.Core.Bool.{false}
 use Rattle.float.specs.Float.{#0}
 use Rattle.solver.specs.declared.Fit.{Fit}
 use Rattle.solver.specs.declared.Fit.the-variants.{Done, Refused}
 use Rattle.solver.specs.declared.FitResult.{FitResult}
-use Rattle.solver.specs.declared.IterOptions.{IterOptions}
-use Rattle.exports.specs.declared.FitAnswer.{FitAnswer}
-use Rattle.exports.specs.declared.FitOptions.{FitOptions}
-
-abbrev pub optionsOf : FitOptions → IterOptions
-optionsOf o = record {
-  «max_iter» = o .«max_iter»;
-  «tol_rad» = o .«tol_rad»;
-  «initial_lambda» = o .«initial_lambda»;
-  «lambda_up» = o .«lambda_up»;
-  «lambda_down» = o .«lambda_down»;
-  robust = o .robust;
-  «huber_k» = o .«huber_k»;
-}
+use Rattle.exports.specs.declared.fits.FitAnswer.{FitAnswer}
 
 -- 0 and the result
 abbrev pub givenAnswer : FitResult → FitAnswer

@@ -1,1 +1,4 @@
 pub mod Fits
+pub mod Point
+pub mod Scratch
+pub mod Term

@@ -1,21 +1,38 @@
-// The C interface of the library. A slice is a pointer and a count; a struct is the C struct of its
-// fields.
+// The C interface of the library: a slice is a pointer and a count, a struct is the C struct of its fields. No call asks anything of
+// its caller.
 
 ghost use mathlib.Core.Path.{_≡_};
-ghost use Prim.Native.Nat.{_+_, _*_, _≤_, _<_};
-ghost use lib.ListN.{length};
 ghost use lib.Ieee.{binary64};
 ghost use Rattle.sqrt.specs.Sqrt as Root;
-ghost use Rattle.sequence.specs.Sequence.{part, Only};
-ghost use Rattle.jacobi.specs.Jacobi.{factorised};
-ghost use Rattle.linalg.specs.Linalg.{Placed, leverageOf, solvedDamped};
+ghost use Rattle.terms.specs.Names.{readTerm};
+ghost use Rattle.terms.specs.Jacobian.{jacobianOf};
 ghost use Rattle.validate.specs.Call.{lent, buffers};
 ghost use Rattle.single_step.specs.SingleStep.{fitOutcome};
 ghost use Rattle.iterated.specs.Iterated.{iteratedOutcome};
 ghost use Rattle.iterated.specs.Demand3.{Demand3};
-ghost use Rattle.exports.specs.Fits.{optionsOf, givenAnswer, refusedAnswer, answerOf};
-use solver::Fit;
-use solver::FitResult;
+ghost use Rattle.exports.specs.Scratch.{scratchLength};
+ghost use Rattle.exports.specs.Term.{termAnswer};
+ghost use Rattle.exports.specs.Point.{pairAnswer, correctionAt, breakdownAt};
+ghost use Rattle.exports.specs.Fits.{answerOf};
+
+mod fits;
+mod point;
+mod term;
+
+use crate::fits::FitAnswer;
+use crate::fits::answer;
+use crate::point::PairAnswer;
+use crate::point::given_pair;
+use crate::point::pair_answer;
+use crate::point::refusal_at;
+use crate::point::refused_pair;
+use crate::term::TermAnswer;
+use crate::term::term_answer;
+use model::Breakdown;
+use model::point::contributions;
+use model::point::corrected;
+use model::point::no_breakdown;
+use observation::PierSide;
 use solver::IterOptions;
 
 // The square root, correctly rounded.
@@ -26,142 +43,98 @@ pub extern "C" fn pointing_sqrt(x: f64) -> f64
     sqrt::sqrt(x)
 }
 
-#[no_mangle]
-pub extern "C" fn pointing_factorise(
-    w: &mut [f64],
-    h: usize,
-    rows: usize,
-    m: usize,
-) -> jacobi::Sweeps
-    requires { ⌜ (rows + m ≤ h) × (m * h ≤ length (now w)) ⌝ }
-    ensures { λ r. ⌜ record { w = now (w .exit); made = r .made; settled = r .settled } ≡ factorised h rows m (now (w .entry)) ⌝ }
-{
-    jacobi::factorise(w, h, rows, m)
-}
-
-#[no_mangle]
-pub extern "C" fn pointing_solve_damped(
-    w: &mut [f64],
-    c: usize,
-    h: usize,
-    rows: usize,
-    m: usize,
-    b: usize,
-    lambda: f64,
-    fit_tol: f64,
-) -> linalg::SolveOutcome
-    requires { ⌜ (0 < m) × (m ≤ 32) × (rows + m + m ≤ h) × (c + m * h ≤ length (now w)) × (b + rows ≤ c) ⌝ }
-    ensures { λ r. ⌜ (record { outcome = r; w = part (now (w .exit)) c (m * h) } ≡ solvedDamped h rows m (part (now (w .entry)) c (m * h)) (part (now (w .entry)) b rows) lambda «fit_tol»)
-        × Only c (m * h) (now (w .entry)) (now (w .exit)) ⌝ }
-{
-    linalg::solve_damped(w, c, h, rows, m, b, lambda, fit_tol)
-}
-
-// The leverage of row r, from the columns that a solve left and its order and inverses.
-#[no_mangle]
-pub extern "C" fn pointing_leverage(
-    w: &[f64],
-    h: usize,
-    order: &[usize],
-    r: usize,
-    inv_s: &[f64; 32],
-) -> f64
-    requires { ⌜ Placed h (now w) (now order) × (r < h) ⌝ }
-    ensures { λ t. ⌜ t ≡ leverageOf h (now (w .entry)) (now (order .entry)) (now («inv_s» .entry)) r ⌝ }
-{
-    linalg::leverage(w, h, order, r, inv_s)
-}
-
-// solver::IterOptions for C.
+// 0 and how many numbers of scratch a fit needs, or 1 and 0.
 #[repr(C)]
-pub struct FitOptions {
-    pub max_iter: usize,
-    pub tol_rad: f64,
-    pub initial_lambda: f64,
-    pub lambda_up: f64,
-    pub lambda_down: f64,
-    pub robust: bool,
-    pub huber_k: f64,
-}
-
-fn options_of(o: FitOptions) -> IterOptions
-    ensures { λ r. ⌜ r ≡ optionsOf o ⌝ }
-{
-    IterOptions {
-        max_iter: o.max_iter,
-        tol_rad: o.tol_rad,
-        initial_lambda: o.initial_lambda,
-        lambda_up: o.lambda_up,
-        lambda_down: o.lambda_down,
-        robust: o.robust,
-        huber_k: o.huber_k,
-    }
-}
-
-// solver::Fit for C: 0 and the fields of a result, or the number of the question that refused the fit and zeros.
-#[repr(C)]
-pub struct FitAnswer {
+pub struct ScratchLength {
     pub refusal: u8,
-    pub sky_rms: f64,
-    pub popn_sd: f64,
-    pub n_free: usize,
-    pub rank: usize,
-    pub sigma_max: f64,
-    pub sigma_min: f64,
-    pub tol: f64,
-    pub iterations: usize,
-    pub converged: bool,
-    pub final_lambda: f64,
-    pub final_step_norm: f64,
+    pub length: usize,
 }
 
-fn given(r: FitResult) -> FitAnswer
-    ensures { λ t. ⌜ t ≡ givenAnswer r ⌝ }
+// The scratch that a fit of m terms and n stars needs.
+#[no_mangle]
+pub extern "C" fn pointing_scratch_length(m: usize, n: usize) -> ScratchLength
+    ensures { λ r. ⌜ r ≡ scratchLength m n ⌝ }
 {
-    let rank_info = r.rank_info;
-    let iter_report = r.iter_report;
-    FitAnswer {
+    if 32 < m {
+        return ScratchLength {
+            refusal: 1,
+            length: 0,
+        };
+    }
+    if 1024 < n {
+        return ScratchLength {
+            refusal: 1,
+            length: 0,
+        };
+    }
+    ScratchLength {
         refusal: 0,
-        sky_rms: r.sky_rms,
-        popn_sd: r.popn_sd,
-        n_free: rank_info.n_free,
-        rank: rank_info.rank,
-        sigma_max: rank_info.sigma_max,
-        sigma_min: rank_info.sigma_min,
-        tol: rank_info.tol,
-        iterations: iter_report.iterations,
-        converged: iter_report.converged,
-        final_lambda: iter_report.final_lambda,
-        final_step_norm: iter_report.final_step_norm,
+        length: validate::scratch_needed(m, n),
     }
 }
 
-fn refused(k: u8) -> FitAnswer
-    ensures { λ t. ⌜ t ≡ refusedAnswer k ⌝ }
+// The term that the name in a slot of 16 bytes names.
+#[no_mangle]
+pub extern "C" fn pointing_read_term(slot: &[u8]) -> TermAnswer
+    ensures { λ r. ⌜ r ≡ termAnswer (readTerm (now (slot .entry))) ⌝ }
 {
-    FitAnswer {
-        refusal: k,
-        sky_rms: 0.0,
-        popn_sd: 0.0,
-        n_free: 0,
-        rank: 0,
-        sigma_max: 0.0,
-        sigma_min: 0.0,
-        tol: 0.0,
-        iterations: 0,
-        converged: false,
-        final_lambda: 0.0,
-        final_step_norm: 0.0,
-    }
+    term_answer(terms::read_term(slot))
 }
 
-fn answer(fit: Fit) -> FitAnswer
-    ensures { λ r. ⌜ r ≡ answerOf fit ⌝ }
+// The Jacobian of a name at the observation of one sheet.
+#[no_mangle]
+pub extern "C" fn pointing_jacobian(
+    name: &[u8],
+    sheet: &[f64],
+    sin_lat: f64,
+    cos_lat: f64,
+    pier: u8,
+) -> PairAnswer
+    ensures { λ r. ⌜ r ≡ pairAnswer (jacobianOf (now (name .entry)) (now (sheet .entry)) «sin_lat» «cos_lat» pier) ⌝ }
 {
-    match fit {
-        Fit::Done(r) => given(r),
-        Fit::Refused(k) => refused(k),
+    pair_answer(terms::jacobian(name, sheet, sin_lat, cos_lat, pier))
+}
+
+// The correction at one point of the model with these names and coefficients.
+#[no_mangle]
+pub extern "C" fn pointing_apply_equatorial(
+    names: &[u8],
+    coefficients: &[f64],
+    sheet: &[f64],
+    sin_lat: f64,
+    cos_lat: f64,
+    pier: u8,
+) -> PairAnswer
+    ensures { λ r. ⌜ r ≡ correctionAt (now (names .entry)) (now (coefficients .entry)) (now (sheet .entry)) «sin_lat» «cos_lat» pier ⌝ }
+{
+    let no = refusal_at(names, coefficients, sheet, sin_lat, cos_lat, pier);
+    if no != 0 {
+        return refused_pair(no);
     }
+    let sign = PierSide::from_code(pier).sign();
+    let m = coefficients.len();
+    given_pair(corrected(names, coefficients, m, sheet, sin_lat, cos_lat, sign))
+}
+
+// What each term contributes to the correction at one point.
+#[no_mangle]
+pub extern "C" fn pointing_predict_breakdown(
+    names: &[u8],
+    coefficients: &[f64],
+    sheet: &[f64],
+    sin_lat: f64,
+    cos_lat: f64,
+    pier: u8,
+) -> Breakdown
+    ensures { λ r. ⌜ r ≡ breakdownAt (now (names .entry)) (now (coefficients .entry)) (now (sheet .entry)) «sin_lat» «cos_lat» pier ⌝ }
+{
+    let no = refusal_at(names, coefficients, sheet, sin_lat, cos_lat, pier);
+    if no != 0 {
+        return no_breakdown(no);
+    }
+    let sign = PierSide::from_code(pier).sign();
+    let m = coefficients.len();
+    contributions(names, coefficients, m, sheet, sin_lat, cos_lat, sign)
 }
 
 // The single-step fit.
@@ -218,16 +191,16 @@ pub extern "C" fn pointing_fit_model_iterated(
     sin_lat: f64,
     cos_lat: f64,
     fit_tol: f64,
-    options: FitOptions,
+    options: IterOptions,
     out: &mut [f64],
     change: &mut [f64],
     sigma: &mut [f64],
     diagnostics: &mut [f64],
     scratch: &mut [f64],
 ) -> FitAnswer
-    ensures { λ r. ⌜ (r ≡ answerOf (iteratedOutcome (lent (now (names .entry)) (now (fixed .entry)) (now (coefficients .entry)) (now (dh .entry)) (now (dd .entry)) (now (pier .entry)) (now (sheets .entry)) «sin_lat» «cos_lat» «fit_tol») (optionsOf options) (buffers (now (out .entry)) (now (change .entry)) (now (sigma .entry)) (now (diagnostics .entry)) (now (scratch .entry))) .answer))
-        × (buffers (now (out .exit)) (now (change .exit)) (now (sigma .exit)) (now (diagnostics .exit)) (now (scratch .exit)) ≡ iteratedOutcome (lent (now (names .entry)) (now (fixed .entry)) (now (coefficients .entry)) (now (dh .entry)) (now (dd .entry)) (now (pier .entry)) (now (sheets .entry)) «sin_lat» «cos_lat» «fit_tol») (optionsOf options) (buffers (now (out .entry)) (now (change .entry)) (now (sigma .entry)) (now (diagnostics .entry)) (now (scratch .entry))) .left)
-        × Demand3 (lent (now (names .entry)) (now (fixed .entry)) (now (coefficients .entry)) (now (dh .entry)) (now (dd .entry)) (now (pier .entry)) (now (sheets .entry)) «sin_lat» «cos_lat» «fit_tol») (optionsOf options) (iteratedOutcome (lent (now (names .entry)) (now (fixed .entry)) (now (coefficients .entry)) (now (dh .entry)) (now (dd .entry)) (now (pier .entry)) (now (sheets .entry)) «sin_lat» «cos_lat» «fit_tol») (optionsOf options) (buffers (now (out .entry)) (now (change .entry)) (now (sigma .entry)) (now (diagnostics .entry)) (now (scratch .entry))) .answer) (now (out .exit)) ⌝ }
+    ensures { λ r. ⌜ (r ≡ answerOf (iteratedOutcome (lent (now (names .entry)) (now (fixed .entry)) (now (coefficients .entry)) (now (dh .entry)) (now (dd .entry)) (now (pier .entry)) (now (sheets .entry)) «sin_lat» «cos_lat» «fit_tol») options (buffers (now (out .entry)) (now (change .entry)) (now (sigma .entry)) (now (diagnostics .entry)) (now (scratch .entry))) .answer))
+        × (buffers (now (out .exit)) (now (change .exit)) (now (sigma .exit)) (now (diagnostics .exit)) (now (scratch .exit)) ≡ iteratedOutcome (lent (now (names .entry)) (now (fixed .entry)) (now (coefficients .entry)) (now (dh .entry)) (now (dd .entry)) (now (pier .entry)) (now (sheets .entry)) «sin_lat» «cos_lat» «fit_tol») options (buffers (now (out .entry)) (now (change .entry)) (now (sigma .entry)) (now (diagnostics .entry)) (now (scratch .entry))) .left)
+        × Demand3 (lent (now (names .entry)) (now (fixed .entry)) (now (coefficients .entry)) (now (dh .entry)) (now (dd .entry)) (now (pier .entry)) (now (sheets .entry)) «sin_lat» «cos_lat» «fit_tol») options (iteratedOutcome (lent (now (names .entry)) (now (fixed .entry)) (now (coefficients .entry)) (now (dh .entry)) (now (dd .entry)) (now (pier .entry)) (now (sheets .entry)) «sin_lat» «cos_lat» «fit_tol») options (buffers (now (out .entry)) (now (change .entry)) (now (sigma .entry)) (now (diagnostics .entry)) (now (scratch .entry))) .answer) (now (out .exit)) ⌝ }
 {
     answer(iterated::fit_model_iterated(
         names,
@@ -240,7 +213,7 @@ pub extern "C" fn pointing_fit_model_iterated(
         sin_lat,
         cos_lat,
         fit_tol,
-        options_of(options),
+        options,
         out,
         change,
         sigma,

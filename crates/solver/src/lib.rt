@@ -36,6 +36,7 @@ pub struct IterReport {
     pub final_step_norm: f64,
 }
 
+#[repr(C)]
 pub struct IterOptions {
     pub max_iter: usize,
     pub tol_rad: f64,

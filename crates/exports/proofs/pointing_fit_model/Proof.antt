@@ -1,5 +1,5 @@
 -- `exports::pointing_fit_model` meets its contract. Assumes nothing.
-use Rattle.exports.proofs.Fits.{answered}
+use Rattle.exports.proofs.Answered.{answered}
 use borrow.Author.Needs.{needs}
 use Rattle.exports.proofs.pointing_fit_model.Statement.{statement}
 use Rattle.exports.proofs.pointing_fit_model.Tie as tie

@@ -1,12 +1,9 @@
 -- `exports::pointing_fit_model_iterated` meets its contract. Assumes nothing.
 use Rattle.validate.specs.Call.{lent, buffers}
-use Rattle.exports.proofs.Fits.{answered-iterated}
+use Rattle.exports.proofs.Answered.{answered-iterated}
 use borrow.Author.Needs.{needs}
 use Rattle.exports.proofs.pointing_fit_model_iterated.Statement.{statement}
 use Rattle.exports.proofs.pointing_fit_model_iterated.Tie as tie
-
-options-of-requires : tie.Need-options-of-requires
-options-of-requires c κs = search needs
 
 fit-model-iterated-requires : tie.Need-fit-model-iterated-requires
 fit-model-iterated-requires c κs = search needs
@@ -31,14 +28,13 @@ same-length-5 c = search needs
 
 returns : tie.Need-returns
 returns c =
-    let a = c .before .before .before .before .before .before .before .before .before .before .before .before .before .before .before .before .before .before .before .before .before .before .before .before .before .before .before .before .before .before .args in
-    answered-iterated (lent (a .names .now) (a .fixed .now) (a .coefficients .now) (a .dh .now) (a .dd .now) (a .pier .now) (a .sheets .now) (a .sin-lat) (a .cos-lat) (a .fit-tol)) _ _ (buffers (a .out .now) (a .change .now) (a .sigma .now) (a .diagnostics .now) (a .scratch .now)) _ _ _ (c .before .before .before .before .before .before .before .before .before .before .before .before .before .before .before .before .before .options-of .ensures) (c .before .before .before .before .before .before .before .before .before .before .before .fit-model-iterated .ensures) (c .answer .ensures)
+    let a = c .before .before .before .before .before .before .before .before .before .before .before .before .before .before .before .before .before .before .before .before .before .before .before .before .before .before .before .before .before .args in
+    answered-iterated (lent (a .names .now) (a .fixed .now) (a .coefficients .now) (a .dh .now) (a .dd .now) (a .pier .now) (a .sheets .now) (a .sin-lat) (a .cos-lat) (a .fit-tol)) _ (buffers (a .out .now) (a .change .now) (a .sigma .now) (a .diagnostics .now) (a .scratch .now)) _ _ _ (c .before .before .before .before .before .before .before .before .before .before .before .fit-model-iterated .ensures) (c .answer .ensures)
 
 pub pointing-fit-model-iterated-spec : {M : Type 1} → statement M
 pointing-fit-model-iterated-spec =
     tie.close
     (tie.spec
-    options-of-requires
     fit-model-iterated-requires
     answer-requires
     same-length

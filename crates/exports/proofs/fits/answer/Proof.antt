@@ -1,9 +1,9 @@
--- `exports::answer` meets its contract. Assumes nothing.
+-- `exports::fits::answer` meets its contract. Assumes nothing.
 use mathlib.Core.Path.{ap, sym, _∙_}
 use Rattle.exports.specs.Fits.{answerOf}
 use borrow.Author.Needs.{needs}
-use Rattle.exports.proofs.answer.Statement.{statement}
-use Rattle.exports.proofs.answer.Tie as tie
+use Rattle.exports.proofs.fits.answer.Statement.{statement}
+use Rattle.exports.proofs.fits.answer.Tie as tie
 
 enum-known-fit : tie.Need-enum-known-fit
 enum-known-fit c = search needs

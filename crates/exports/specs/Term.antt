@@ -1,0 +1,131 @@
+-- What a name is read as, in numbers, as a C struct. Definitions only.
+use Prim.Native.Nat.{ℕ}
+use mathlib.Core.Bool.{cond}
+use mathlib.Core.List.{List, map}
+use lib.Dec.{eqb}
+use lib.ListN.{replicate}
+use Rattle.equatorial.specs.declared.EquatorialTerm.{EquatorialTerm}
+use Rattle.equatorial.specs.declared.EquatorialTerm.the-variants.{IH, ID, CH, NP, MA, ME, TF, TX, TXN, DAF, FO, HCES, HCEC, DCES, DCEC}
+use Rattle.harmonic.specs.declared.TrigFunc.{TrigFunc}
+use Rattle.harmonic.specs.declared.Coordinate.{Coordinate}
+use Rattle.harmonic.specs.declared.ResultType.{ResultType}
+use Rattle.harmonic.specs.declared.HarmonicComponent.{HarmonicComponent}
+use Rattle.terms.specs.declared.TermKind.{TermKind}
+use Rattle.terms.specs.declared.TermKind.the-variants.{Equatorial, Harmonic}
+use Rattle.terms.specs.declared.Term.{Term}
+use Rattle.terms.specs.declared.Reading.{Reading}
+use Rattle.exports.specs.declared.term.TermAnswer.{TermAnswer}
+use Rattle.exports.specs.declared.term.ComponentCodes.{ComponentCodes}
+
+-- ---- the kind of a term
+
+abbrev pub equatorialCode : EquatorialTerm → ℕ
+equatorialCode IH = 0
+equatorialCode ID = 1
+equatorialCode CH = 2
+equatorialCode NP = 3
+equatorialCode MA = 4
+equatorialCode ME = 5
+equatorialCode TF = 6
+equatorialCode TX = 7
+equatorialCode (TXN n) = 8
+equatorialCode DAF = 9
+equatorialCode FO = 10
+equatorialCode HCES = 11
+equatorialCode HCEC = 12
+equatorialCode DCES = 13
+equatorialCode DCEC = 14
+
+-- TXN's own number
+abbrev pub txnNumber : EquatorialTerm → ℕ
+txnNumber IH = 0
+txnNumber ID = 0
+txnNumber CH = 0
+txnNumber NP = 0
+txnNumber MA = 0
+txnNumber ME = 0
+txnNumber TF = 0
+txnNumber TX = 0
+txnNumber (TXN n) = n
+txnNumber DAF = 0
+txnNumber FO = 0
+txnNumber HCES = 0
+txnNumber HCEC = 0
+txnNumber DCES = 0
+txnNumber DCEC = 0
+
+abbrev pub resultCode : ResultType → ℕ
+resultCode ResultType.H = 0
+resultCode ResultType.D = 1
+resultCode ResultType.X = 2
+resultCode ResultType.P = 3
+resultCode ResultType.A = 4
+resultCode ResultType.E = 5
+resultCode ResultType.Z = 6
+resultCode ResultType.S = 7
+
+abbrev pub kindCode : TermKind → ℕ
+kindCode (Equatorial t) = equatorialCode t
+kindCode (Harmonic t) = 15
+
+abbrev pub numberOf : TermKind → ℕ
+numberOf (Equatorial t) = txnNumber t
+numberOf (Harmonic t) = 0
+
+abbrev pub resultOf : TermKind → ℕ
+resultOf (Equatorial t) = 0
+resultOf (Harmonic t) = resultCode t
+
+-- ---- components
+
+abbrev pub functionCode : TrigFunc → ℕ
+functionCode TrigFunc.Sin = 0
+functionCode TrigFunc.Cos = 1
+
+abbrev pub coordinateCode : Coordinate → ℕ
+coordinateCode Coordinate.H = 0
+coordinateCode Coordinate.D = 1
+coordinateCode Coordinate.A = 2
+coordinateCode Coordinate.E = 3
+coordinateCode Coordinate.Z = 4
+
+abbrev pub codesOf : List ℕ → List ℕ → List ℕ → ComponentCodes
+codesOf functions coordinates frequencies = record { functions = functions; coordinates = coordinates; frequencies = frequencies }
+
+-- of the places behind a term's components zeros, since a blank component is sin, H and 0
+abbrev pub componentCodes : List HarmonicComponent → ComponentCodes
+componentCodes l = codesOf (map (λ c. functionCode (c .func)) l) (map (λ c. coordinateCode (c .coord)) l) (map (λ c. c .frequency) l)
+
+-- ---- the answer
+
+abbrev pub readAnswer : Term → TermAnswer
+readAnswer t =
+    let codes = componentCodes (t .components .list) in
+    record {
+      refusal = 0;
+      kind = kindCode (t .kind);
+      number = numberOf (t .kind);
+      result = resultOf (t .kind);
+      count = t .components .count;
+      name = t .name;
+      functions = codes .functions;
+      coordinates = codes .coordinates;
+      frequencies = codes .frequencies;
+    }
+
+-- the number of the question that refused the name, none of which is 0, and zeros
+abbrev pub noTerm : ℕ → TermAnswer
+noTerm k = record {
+  refusal = k;
+  kind = 0;
+  number = 0;
+  result = 0;
+  count = 0;
+  name = replicate 16 0;
+  functions = replicate 7 0;
+  coordinates = replicate 7 0;
+  frequencies = replicate 7 0;
+}
+
+unfoldable pub termAnswer : Reading → TermAnswer
+termAnswer r = cond (eqb (r .refusal) 0) (readAnswer (r .term)) (noTerm (r .refusal))
