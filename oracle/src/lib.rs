@@ -1,8 +1,9 @@
 //! The Rust of docs/src with exactly document 01's substitutions, each marked `// document 01: ..`.
 //! File by file beside docs/src: `terms`, `observation`, `solver`, `model`. The others stand for
-//! what the source takes from its libraries, or hold document 01's calls and file program.
+//! what the source takes from its libraries, or hold document 01's calls and file program;
+//! `vectors` makes the stored answers and random calls.
 
-#![allow(clippy::needless_range_loop)]
+#![allow(clippy::needless_range_loop, clippy::neg_cmp_op_on_partial_ord)]
 
 pub mod demand3;
 pub mod error;
@@ -17,3 +18,4 @@ pub mod sheet;
 pub mod solver;
 pub mod svd;
 pub mod terms;
+pub mod vectors;

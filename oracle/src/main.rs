@@ -2,14 +2,10 @@
 //! DIR/crates.txt lists; `oracle check DIR` works them out again and fails on a difference;
 //! `oracle fit` is the file program.
 
-#![allow(clippy::needless_range_loop, clippy::neg_cmp_op_on_partial_ord)]
-
-mod vectors;
-
+use oracle::vectors::{self, Vectors};
 use std::io::Read;
 use std::path::{Path, PathBuf};
 use std::process::ExitCode;
-use vectors::Vectors;
 
 fn files(dir: &Path, vectors: &Vectors) -> [(PathBuf, Vec<u8>); 2] {
     let dir = dir.join("crates").join(vectors.name);

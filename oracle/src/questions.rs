@@ -370,3 +370,49 @@ pub fn predict_breakdown(model: &Model, point: &Point) -> Result<Vec<(f64, f64)>
     let breakdown = read.predict_breakdown(&sheet, lat, pier);
     Ok(breakdown.into_iter().map(|(_, h, d)| (h, d)).collect())
 }
+
+/// A model as a caller lends it: a slot for each name, and a coefficient.
+#[derive(Debug, Clone, Copy)]
+pub struct LentModel<'a> {
+    pub names: &'a [u8],
+    pub coefficients: &'a [f64],
+}
+
+impl LentModel<'_> {
+    /// Questions 1, 2, 4, 5 and 7 to 10, put to the model and a point together.
+    fn read(&self, point: &Point) -> Result<PointingModel> {
+        let m = self.coefficients.len();
+        ask(m <= MAX_TERMS, 1)?;
+        ask(
+            self.names.len() == NAME * m && point.sheet.len() == SHEET,
+            2,
+        )?;
+        ask(finite(self.coefficients), 4)?;
+        point.ask_values()?;
+        Ok(PointingModel::of(
+            slot_terms(self.names)?,
+            self.coefficients,
+        ))
+    }
+}
+
+/// The correction of a lent model at one point.
+pub fn apply_equatorial_lent(model: &LentModel, point: &Point) -> Result<(f64, f64)> {
+    let read = model.read(point)?;
+    let (sheet, lat, pier) = point.lent();
+    Ok(read.apply_equatorial(&sheet, lat, pier))
+}
+
+/// Two contributions per term of a lent model at one point.
+pub fn predict_breakdown_lent(model: &LentModel, point: &Point) -> Result<Vec<(f64, f64)>> {
+    let read = model.read(point)?;
+    let (sheet, lat, pier) = point.lent();
+    let breakdown = read.predict_breakdown(&sheet, lat, pier);
+    Ok(breakdown.into_iter().map(|(_, h, d)| (h, d)).collect())
+}
+
+/// The numbers of scratch that a fit of m terms and n stars asks: question 1.
+pub fn scratch_length(m: usize, n: usize) -> Result<usize> {
+    ask(m <= MAX_TERMS && n <= MAX_STARS, 1)?;
+    Ok(scratch_size(m, n))
+}

@@ -1,6 +1,6 @@
 //! Sheets of real angles by plain arithmetic, so that every machine makes the same.
 
-use oracle::sheet::SHEET;
+use crate::sheet::SHEET;
 
 /// Pi/2 as a number of few bits and what is left.
 const HALF_PI: [f64; 2] = [1.570_796_326_734_125_6, 6.077_100_506_506_192e-11];

@@ -1,7 +1,7 @@
 //! Faults that the questions find, and calls that have one or several.
 
 use super::runs::{Case, Maker, NOT_FINITE, SINGLE};
-use oracle::questions::NAME;
+use crate::questions::NAME;
 
 /// Names that questions 7, 8, 9 and 10 refuse.
 pub const REFUSED_NAMES: [&[&[u8]]; 4] = [
@@ -40,7 +40,7 @@ const SHAPE_FIRST: [u8; 13] = [13, 11, 12, 1, 7, 8, 9, 10, 5, 4, 6, 2, 3];
 
 impl Maker<'_> {
     /// A fault that question `number` finds; see `SHAPE_FIRST` where there are several.
-    fn fault(&mut self, case: &mut Case, number: u8) {
+    pub fn fault(&mut self, case: &mut Case, number: u8) {
         match number {
             1 => self.fault_count(case),
             2 => {
@@ -99,7 +99,7 @@ impl Maker<'_> {
     }
 
     /// Another number of name bytes, flags, declination differences, pier codes or sheet numbers.
-    fn fault_length(&mut self, case: &mut Case, sort: usize, by: isize) {
+    pub fn fault_length(&mut self, case: &mut Case, sort: usize, by: isize) {
         let to = |len: usize| len.saturating_add_signed(by);
         let run = &mut case.run;
         match sort {
@@ -112,7 +112,7 @@ impl Maker<'_> {
     }
 
     /// A number that isn't finite in a slice, a scalar or an option.
-    fn fault_float(&mut self, case: &mut Case, sort: usize, number: f64) {
+    pub fn fault_float(&mut self, case: &mut Case, sort: usize, number: f64) {
         let random = &mut self.random;
         let run = &mut case.run;
         let slice = match sort {
@@ -148,7 +148,7 @@ impl Maker<'_> {
     }
 
     /// Two to four faults, mostly of different questions.
-    fn several_faults(&mut self, case: &mut Case, asked: &[u8]) {
+    pub fn several_faults(&mut self, case: &mut Case, asked: &[u8]) {
         let mut chosen = Vec::new();
         for _ in 0..self.random.within(2, 4) {
             chosen.push(self.random.pick(asked));
@@ -156,7 +156,7 @@ impl Maker<'_> {
         self.put_faults(case, &chosen);
     }
 
-    fn put_faults(&mut self, case: &mut Case, chosen: &[u8]) {
+    pub fn put_faults(&mut self, case: &mut Case, chosen: &[u8]) {
         for number in SHAPE_FIRST {
             if chosen.contains(&number) {
                 self.fault(case, number);
@@ -166,7 +166,7 @@ impl Maker<'_> {
 }
 
 impl Maker<'_> {
-    fn faulty(&mut self, modes: &[u8], change: impl FnOnce(&mut Self, &mut Case)) -> Case {
+    pub fn faulty(&mut self, modes: &[u8], change: impl FnOnce(&mut Self, &mut Case)) -> Case {
         let mode = self.random.pick(modes);
         let mut case = self.real(mode, 4, 5);
         change(self, &mut case);
@@ -226,7 +226,7 @@ impl Maker<'_> {
     }
 
     /// Two names or more refused for different reasons: the lowest slot decides.
-    fn refused_names(&mut self, case: &mut Case) {
+    pub fn refused_names(&mut self, case: &mut Case) {
         case.resize_terms(case.m() + 2);
         for number in 7..=10 {
             self.fault(case, number);

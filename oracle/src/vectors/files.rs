@@ -3,7 +3,7 @@
 use super::random::Random;
 use super::runs::{still, Case, Maker, Pool, ITERATED, NAMES, ROBUST, SINGLE};
 use super::Vectors;
-use oracle::pmf::{file, file_size, listing};
+use crate::pmf::{file, file_size, listing};
 
 const MODES: [u8; 3] = [SINGLE, ITERATED, ROBUST];
 const HEADER: usize = 9;

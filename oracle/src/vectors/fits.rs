@@ -2,8 +2,8 @@
 
 use super::runs::{Case, Pool, ROBUST, SINGLE};
 use super::{put_doubles, Vectors};
-use oracle::demand3::demand3;
-use oracle::solver::FitResult;
+use crate::demand3::demand3;
+use crate::solver::FitResult;
 
 pub struct Records<'a> {
     pool: &'a Pool,

@@ -6,7 +6,7 @@ use super::runs::{still, Case, Maker, Pool, ITERATED, NAMES, OTHER, ROBUST, ROTA
 use super::Vectors;
 
 const MODES: [u8; 2] = [ITERATED, ROBUST];
-const ASKED: [u8; 13] = [1, 2, 3, 4, 5, 6, 7, 8, 9, 10, 11, 12, 13];
+pub const ASKED: [u8; 13] = [1, 2, 3, 4, 5, 6, 7, 8, 9, 10, 11, 12, 13];
 
 const TOLERANCES: [f64; 10] = [1e-6, 1e-6, 1e-4, 0.0, -0.0, -1.0, 1e-12, 1e-9, 1.0, 1e300];
 const DAMPINGS: [f64; 14] = [
@@ -23,7 +23,7 @@ const HUBER: [f64; 11] = [
 ];
 
 /// One option, or all, from the lists.
-fn choose_options(maker: &mut Maker, case: &mut Case) {
+pub fn choose_options(maker: &mut Maker, case: &mut Case) {
     let sort = maker.random.below(8);
     let random = &mut maker.random;
     let options = &mut case.options;
@@ -51,7 +51,7 @@ fn mode(maker: &mut Maker) -> u8 {
 }
 
 /// A few stars far out, or seen from the other pier side than was noted.
-fn outliers(maker: &mut Maker, mode: u8) -> Case {
+pub fn outliers(maker: &mut Maker, mode: u8) -> Case {
     let names = maker
         .random
         .pick(&[["IH", "ID", "CH"], ["ID", "CH", "NP"], ["ID", "MA", "ME"]]);
@@ -69,7 +69,7 @@ fn outliers(maker: &mut Maker, mode: u8) -> Case {
     case
 }
 
-fn far_start(maker: &mut Maker, mode: u8) -> Case {
+pub fn far_start(maker: &mut Maker, mode: u8) -> Case {
     let mut case = maker.real(mode, 4, 7);
     let size = maker.random.pick(&[1e6, 1e9, 1e15, 1e30, 1e100]);
     for j in 0..case.m() {
@@ -80,7 +80,7 @@ fn far_start(maker: &mut Maker, mode: u8) -> Case {
 
 /// Chi-square is a NaN at the start: CH at cos dec 0 with a coefficient that isn't 0, or numbers
 /// whose products are infinite.
-fn nan_start(maker: &mut Maker, mode: u8) -> Case {
+pub fn nan_start(maker: &mut Maker, mode: u8) -> Case {
     let n = maker.random.within(2, 5);
     let mut case = maker.real_of(mode, &["CH", "ID"], n);
     case.run.coefficients[0] = maker.random.pick(&[1.0, -20.0, 1e-300]);
@@ -94,7 +94,7 @@ fn nan_start(maker: &mut Maker, mode: u8) -> Case {
 }
 
 /// Only terms that the rotational step norm leaves out, or one that it takes among others.
-fn step_norms(maker: &mut Maker, mode: u8) -> Case {
+pub fn step_norms(maker: &mut Maker, mode: u8) -> Case {
     let m = maker.random.within(1, 3);
     let mut names = maker.names(m, &OTHER);
     if maker.random.below(3) == 0 {
@@ -126,7 +126,7 @@ fn regime(maker: &mut Maker) -> Case {
 }
 
 /// Document 01's file case with max_iter 0, and its stars with other limits.
-fn documented(out: &mut Vec<Case>) {
+pub fn documented(out: &mut Vec<Case>) {
     for mode in MODES {
         for max_iter in [0, 1, 2, 50, 1000, 1001] {
             for dd in [
@@ -143,7 +143,7 @@ fn documented(out: &mut Vec<Case>) {
 }
 
 /// An undamped first step of exactly 10 arcseconds, with the tolerance at its norm and next to it.
-fn at_tolerance(out: &mut Vec<Case>) {
+pub fn at_tolerance(out: &mut Vec<Case>) {
     let norm = 10.0_f64 / 206_264.806_247;
     for tol_rad in [norm.next_down(), norm, norm.next_up()] {
         for mode in MODES {
@@ -254,7 +254,7 @@ pub fn vectors() -> Vectors {
 #[cfg(test)]
 mod tests {
     use super::*;
-    use oracle::demand3::demand3;
+    use crate::demand3::demand3;
 
     /// Demand 3 on runs that no file holds; most of their sets must be ones that (b) compares.
     #[test]
@@ -295,7 +295,7 @@ mod tests {
         case.run.coefficients = vec![1000.0, -1000.0, -0.0];
         let run = case.lent(&pool);
         let fit = case.call(&run).expect("an accepted fit");
-        let verdict = |change: &dyn Fn(&mut oracle::solver::FitResult)| {
+        let verdict = |change: &dyn Fn(&mut crate::solver::FitResult)| {
             let mut fit = fit.clone();
             change(&mut fit);
             demand3(&run, &case.options, &fit).map_err(|part| part[..3].to_string())

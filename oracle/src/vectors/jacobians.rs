@@ -2,20 +2,20 @@
 
 use super::random::{Random, EXTREME};
 use super::{angles, put_doubles, Vectors};
-use oracle::questions::{jacobian, Point};
-use oracle::sheet::SHEET;
+use crate::questions::{jacobian, Point};
+use crate::sheet::SHEET;
 
 /// A sheet of any length with latitude and pier code.
 #[derive(Clone)]
-struct Block {
-    sheet: Vec<f64>,
-    lat: [f64; 2],
-    pier: u8,
+pub struct Block {
+    pub sheet: Vec<f64>,
+    pub lat: [f64; 2],
+    pub pier: u8,
 }
 
 /// The slots: every kind, every entry of a sheet, every result, function and coordinate, and
 /// refused names.
-fn slots() -> Vec<Vec<u8>> {
+pub fn slots() -> Vec<Vec<u8>> {
     let mut names: Vec<String> = [
         "IH", "ID", "CH", "NP", "MA", "ME", "TF", "TX", "DAF", "FO", "HCES", "HCEC", "DCES",
         "DCEC", "TX1", "TX2", "TX3", "TX7", "TX255", "ma", "tx+05",
@@ -70,7 +70,7 @@ fn slots() -> Vec<Vec<u8>> {
     slots
 }
 
-fn real(random: &mut Random, pier: u8) -> Block {
+pub fn real(random: &mut Random, pier: u8) -> Block {
     let h = random.unit() * std::f64::consts::PI;
     let dec = random.unit() * 1.56;
     Block {
@@ -80,7 +80,7 @@ fn real(random: &mut Random, pier: u8) -> Block {
     }
 }
 
-fn filled(random: &mut Random, mut number: impl FnMut(&mut Random) -> f64) -> Block {
+pub fn filled(random: &mut Random, mut number: impl FnMut(&mut Random) -> f64) -> Block {
     Block {
         sheet: (0..SHEET).map(|_| number(random)).collect(),
         lat: [number(random), number(random)],
@@ -89,7 +89,7 @@ fn filled(random: &mut Random, mut number: impl FnMut(&mut Random) -> f64) -> Bl
 }
 
 /// A real block whose sin_alt is `x`: latitude 0, cos dec 1, cos h `x`.
-fn altitude(random: &mut Random, x: f64) -> Block {
+pub fn altitude(random: &mut Random, x: f64) -> Block {
     let mut block = real(random, 1);
     block.lat = [0.0, 1.0];
     block.sheet[1] = x;

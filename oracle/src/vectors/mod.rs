@@ -35,6 +35,6 @@ pub fn all() -> Vec<Vectors> {
 /// Appends doubles; every NaN as 7ff8000000000000.
 fn put_doubles(out: &mut Vec<u8>, numbers: &[f64]) {
     for &x in numbers {
-        out.extend(oracle::pmf::bits(x).to_le_bytes());
+        out.extend(crate::pmf::bits(x).to_le_bytes());
     }
 }

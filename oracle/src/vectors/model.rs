@@ -4,10 +4,10 @@ use super::faults::REFUSED_NAMES;
 use super::random::{Random, EXTREME};
 use super::runs::{slot, Pool, NAMES, NOT_FINITE};
 use super::{angles, put_doubles, Vectors};
-use oracle::questions::{
+use crate::questions::{
     add_term, apply_equatorial, predict_breakdown, set_coefficients, Model, Point, MAX_TERMS, NAME,
 };
-use oracle::sheet::SHEET;
+use crate::sheet::SHEET;
 
 struct Calls {
     random: Random,
@@ -444,8 +444,8 @@ pub fn vectors() -> Vectors {
 #[cfg(test)]
 mod tests {
     use super::*;
-    use oracle::model::PointingModel;
-    use oracle::questions::read_term;
+    use crate::model::PointingModel;
+    use crate::questions::read_term;
 
     /// Where a model's names are as stored, the source's `add_term` finds the same names there.
     #[test]

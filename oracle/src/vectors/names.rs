@@ -2,9 +2,9 @@
 
 use super::random::Random;
 use super::Vectors;
-use oracle::questions::{read_term, stored_name};
-use oracle::terms::harmonic::{parse_harmonic, Coordinate, TrigFunc};
-use oracle::terms::Term;
+use crate::questions::{read_term, stored_name};
+use crate::terms::harmonic::{parse_harmonic, Coordinate, TrigFunc};
+use crate::terms::Term;
 
 const KINDS: [&str; 15] = [
     "IH", "ID", "CH", "NP", "MA", "ME", "TF", "TX", "TXN", "DAF", "FO", "HCES", "HCEC", "DCES",
@@ -18,7 +18,7 @@ const ALTAZ: [&str; 6] = ["IA", "IE", "CA", "NPAE", "AN", "AW"];
 const HARMONIC_BYTES: &[u8] = b"HDXPAEZSC0123456789BT+!\x01\x7f\x80\xff";
 
 /// Kind, number, result, and the components as they are stored.
-fn describe(term: &dyn Term) -> Vec<u8> {
+pub fn describe(term: &dyn Term) -> Vec<u8> {
     let name = term.name();
     if let Some(kind) = KINDS.iter().position(|k| *k == name) {
         return vec![kind as u8, 0, 0, 0];
@@ -133,7 +133,7 @@ pub fn mixed_case(random: &mut Random, name: &[u8]) -> Vec<u8> {
 }
 
 /// A byte near those of names, or any.
-fn any_byte(random: &mut Random) -> u8 {
+pub fn any_byte(random: &mut Random) -> u8 {
     match random.below(3) {
         0 => random.byte(),
         1 => random.within(0x20, 0x7e) as u8,
@@ -142,7 +142,7 @@ fn any_byte(random: &mut Random) -> u8 {
 }
 
 /// A byte changed, added or removed.
-fn damaged(random: &mut Random, name: &[u8]) -> Vec<u8> {
+pub fn damaged(random: &mut Random, name: &[u8]) -> Vec<u8> {
     let mut out = name.to_vec();
     let at = random.below(name.len());
     match random.below(3) {
@@ -165,7 +165,7 @@ fn component(random: &mut Random) -> Vec<u8> {
 }
 
 /// A harmonic of up to seven components and up to `most` bytes.
-fn harmonic(random: &mut Random, most: usize) -> Vec<u8> {
+pub fn harmonic(random: &mut Random, most: usize) -> Vec<u8> {
     let mut out = vec![b'H', random.pick(b"HDXPAEZS")];
     for _ in 0..random.within(1, 7) {
         let next = component(random);
@@ -176,7 +176,7 @@ fn harmonic(random: &mut Random, most: usize) -> Vec<u8> {
     out
 }
 
-fn fixed_name(random: &mut Random) -> Vec<u8> {
+pub fn fixed_name(random: &mut Random) -> Vec<u8> {
     match random.below(4) {
         0 => random.pick(&ALTAZ).into(),
         1 => format!("TX{}", random.within(0, 300)).into(),
@@ -185,7 +185,7 @@ fn fixed_name(random: &mut Random) -> Vec<u8> {
 }
 
 /// TX with a sign, leading zeros and digits, up to 16 bytes and sometimes damaged.
-fn tx_name(random: &mut Random) -> Vec<u8> {
+pub fn tx_name(random: &mut Random) -> Vec<u8> {
     let sign = random.pick(&["", "", "+", "-", "++"]);
     let digits = random.pick(&[
         "0", "1", "9", "10", "99", "100", "255", "256", "999", "65791",

@@ -2,11 +2,11 @@
 
 use super::angles;
 use super::random::{Random, EXTREME};
-use oracle::questions::{
+use crate::questions::{
     fit_model, fit_model_iterated, jacobian, scratch_size, Buffers, Point, Run, NAME,
 };
-use oracle::sheet::SHEET;
-use oracle::solver::{FitResult, IterOptions};
+use crate::sheet::SHEET;
+use crate::solver::{FitResult, IterOptions};
 use std::ops::Range;
 
 pub const SINGLE: u8 = 0;

@@ -5,10 +5,10 @@ use super::random::Random;
 use super::runs::{still, Case, Maker, Pool, NAMES, SINGLE};
 use super::Vectors;
 
-const ASKED: [u8; 12] = [1, 2, 3, 4, 5, 7, 8, 9, 10, 11, 12, 13];
+pub const ASKED: [u8; 12] = [1, 2, 3, 4, 5, 7, 8, 9, 10, 11, 12, 13];
 
 /// Document 01's file case and four-star case, with each fit_tol.
-fn documented(out: &mut Vec<Case>) {
+pub fn documented(out: &mut Vec<Case>) {
     for fit_tol in [0.0, -0.0, -1.0, 5e-324, 1e-12, 0.5, 1.0, 2.0] {
         for dd in [&[-10.0][..], &[-10.0, -20.0, -10.0, -20.0]] {
             let mut case = still(SINGLE, dd);
@@ -57,7 +57,7 @@ fn regimes(maker: &mut Maker, out: &mut Vec<Case>) {
 }
 
 /// Both limits reached, and each passed by one.
-fn limits(maker: &mut Maker, out: &mut Vec<Case>) {
+pub fn limits(maker: &mut Maker, out: &mut Vec<Case>) {
     let names = &NAMES[..32];
     let mut large = maker.real_of(SINGLE, names, 1024);
     large.run.fixed.fill(0);

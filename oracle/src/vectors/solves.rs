@@ -2,11 +2,11 @@
 
 use super::random::Random;
 use super::{angles, put_doubles, Vectors};
-use oracle::matrix::{DMatrix, DVector};
-use oracle::observation::PierSide;
-use oracle::sheet::{Latitude, Sheet};
-use oracle::solver::linalg::solve_damped;
-use oracle::terms::create_term;
+use crate::matrix::{DMatrix, DVector};
+use crate::observation::PierSide;
+use crate::sheet::{Latitude, Sheet};
+use crate::solver::linalg::solve_damped;
+use crate::terms::create_term;
 
 struct System {
     a: DMatrix,

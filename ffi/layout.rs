@@ -1,0 +1,63 @@
+//! Prints a C file that asserts of each struct of `include/pointing.h` the size and the places that it has in `pointing.rs`.
+
+mod pointing;
+
+use pointing::{Breakdown, FitAnswer, FitOptions, Pair, Scratch, Term};
+use std::mem::{offset_of, size_of};
+
+macro_rules! layout {
+    ($rust:ident, $c:literal, $($field:ident),*) => {
+        println!("_Static_assert(sizeof({}) == {}, \"{}\");", $c, size_of::<$rust>(), $c);
+        $(println!(
+            "_Static_assert(offsetof({}, {}) == {}, \"{}.{}\");",
+            $c, stringify!($field), offset_of!($rust, $field), $c, stringify!($field)
+        );)*
+    };
+}
+
+fn main() {
+    println!("#include \"pointing.h\"");
+    layout!(Scratch, "pointing_scratch", refusal, length);
+    layout!(
+        Term,
+        "pointing_term",
+        refusal,
+        kind,
+        number,
+        result,
+        count,
+        name,
+        functions,
+        coordinates,
+        frequencies
+    );
+    layout!(Pair, "pointing_pair", refusal, dh, dd);
+    layout!(Breakdown, "pointing_breakdown", refusal, dh, dd);
+    layout!(
+        FitOptions,
+        "pointing_fit_options",
+        max_iter,
+        tol_rad,
+        initial_lambda,
+        lambda_up,
+        lambda_down,
+        robust,
+        huber_k
+    );
+    layout!(
+        FitAnswer,
+        "pointing_fit_answer",
+        refusal,
+        sky_rms,
+        popn_sd,
+        n_free,
+        rank,
+        sigma_max,
+        sigma_min,
+        tol,
+        iterations,
+        converged,
+        final_lambda,
+        final_step_norm
+    );
+}

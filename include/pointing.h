@@ -1,0 +1,158 @@
+/* The pointing fit as a C library: target/staticlib/libexports.a, which `rt staticlib exports` writes for x86-64.
+ *
+ * Every call answers every input. It asks the questions below in their order; the first that is answered "no" gives its number in `refusal`,
+ * every other field is 0, and every lent buffer holds what it held. Where `refusal` is 0 the answer is whole.
+ *
+ *    1  at most 32 terms (coefficients lent) and 1,024 stars (hour-angle differences lent)
+ *    2  lists of the right lengths: 16 name bytes and one fixed flag for each coefficient; a declination difference, a pier code and 37 sheet
+ *       numbers for each hour-angle difference; 16 bytes for one name, 37 numbers for one point
+ *    3  buffers long enough
+ *    4  every lent number finite
+ *    5  pier codes 0 to 2, fixed flags 0 or 1
+ *    6  max_iter at most 1,000
+ *    7  each slot holds a name: 1 to 16 bytes below 128, none zero, then zeros (7 to 10 are put to one name before the next)
+ *    8  no term of an alt-azimuth mount: IA IE CA NPAE AN AW
+ *    9  a known name, or one that begins with H
+ *   10  a harmonic is well formed
+ *   11  some term
+ *   12  some free term
+ *   13  at least as many stars as free terms
+ *
+ * A call puts only the questions about what it takes; a model without terms corrects by 0 and 0.
+ *
+ * Units. Coefficients, differences, sigmas, residuals, sky_rms, popn_sd, corrections: arcseconds. tol_rad, final_step_norm: radians.
+ * Hour-angle numbers are of the hour angle itself, not times cos dec; a residual on the sky is.
+ *
+ * A name slot is 16 bytes: the name in any case, then zeros. Known are IH ID CH NP MA ME TF TX DAF FO HCES HCEC DCES DCEC, TX with a number
+ * from 1 to 255 (`TX5`, `tx+05`), and harmonics: H, a result of H D X P A E Z S, then parts of S or C, a coordinate of H D A E Z and a digit
+ * from 1 to 9 or none (`HXSHCD2`).
+ *
+ * A sheet is 37 numbers of one star or point: sin h, cos h, sin 2h, cos 2h, .. sin 9h, cos 9h, the same of the declination, tan dec; h is the
+ * hour angle. They are read as they stand. Sheet i of a run begins at 37 * i.
+ *
+ * A pier code is 0 unknown, 1 East, 2 West.
+ *
+ * Extreme numbers can overflow: an answer may then hold infinities, or NaNs, whose bits mean nothing.
+ *
+ * The library keeps no state, allocates nothing, and calls nothing but memcpy and memset. Calls may be made at the same time from several
+ * threads, on buffers that do not overlap. A pointer must lead to as many values as its length says, aligned as C asks; one of length 0 is not
+ * read but must not be null. Buffers must overlap neither each other nor what is read. */
+
+#ifndef POINTING_H
+#define POINTING_H
+
+#include <stdbool.h>
+#include <stddef.h>
+#include <stdint.h>
+
+#ifdef __cplusplus
+extern "C" {
+#endif
+
+#define POINTING_NAME 16
+#define POINTING_SHEET 37
+#define POINTING_MAX_TERMS 32
+#define POINTING_MAX_STARS 1024
+#define POINTING_MAX_ITER 1000
+
+/* The most scratch that a fit asks, in doubles: (4 n + 3 m) m + 8 n + 8 m for m = 32, n = 1,024. */
+#define POINTING_MAX_SCRATCH 142592
+
+enum pointing_pier { POINTING_UNKNOWN = 0, POINTING_EAST = 1, POINTING_WEST = 2 };
+
+/* The square root, correctly rounded. */
+double pointing_sqrt(double x);
+
+/* Doubles of scratch that a fit of m terms and n stars asks: refusal 1 and length 0 where m > 32 or n > 1,024. */
+typedef struct {
+    uint8_t refusal;
+    size_t length;
+} pointing_scratch;
+
+pointing_scratch pointing_scratch_length(size_t m, size_t n);
+
+/* What a name is read as: questions 2 and 7 to 10. */
+typedef struct {
+    uint8_t refusal;
+    uint8_t kind;           /* IH ID CH NP MA ME TF TX TXN DAF FO HCES HCEC DCES DCEC are 0 to 14, a harmonic 15 */
+    uint8_t number;         /* TXN's */
+    uint8_t result;         /* a harmonic's: H D X P A E Z S are 0 to 7 */
+    uint8_t count;          /* components of a harmonic, at most 7 */
+    uint8_t name[16];       /* as stored: capitals, TX's number bare, then zeros */
+    uint8_t functions[7];   /* of each component: sin 0, cos 1 */
+    uint8_t coordinates[7]; /* H D A E Z are 0 to 4 */
+    uint8_t frequencies[7]; /* 1 to 9 */
+} pointing_term;
+
+pointing_term pointing_read_term(const uint8_t *slot, size_t slot_len);
+
+typedef struct {
+    uint8_t refusal;
+    double dh, dd;
+} pointing_pair;
+
+/* What a coefficient of 1 adds to hour angle and declination at one point: questions 2, 4, 5, 7 to 10. sin_lat and cos_lat are of the latitude. */
+pointing_pair pointing_jacobian(const uint8_t *name, size_t name_len, const double *sheet, size_t sheet_len, double sin_lat, double cos_lat,
+                                uint8_t pier);
+
+/* The correction of a model at one point: questions 1, 2, 4, 5, 7 to 10. For a field there the mount is sent to hour angle plus dh and declination
+ * plus dd. */
+pointing_pair pointing_apply_equatorial(const uint8_t *names, size_t names_len, const double *coefficients, size_t coefficients_len,
+                                        const double *sheet, size_t sheet_len, double sin_lat, double cos_lat, uint8_t pier);
+
+/* What each term adds to it: a pair for each term, then zeros. The same questions. */
+typedef struct {
+    uint8_t refusal;
+    double dh[32], dd[32];
+} pointing_breakdown;
+
+pointing_breakdown pointing_predict_breakdown(const uint8_t *names, size_t names_len, const double *coefficients, size_t coefficients_len,
+                                              const double *sheet, size_t sheet_len, double sin_lat, double cos_lat, uint8_t pier);
+
+typedef struct {
+    size_t max_iter;       /* the most trials; usual is 50 */
+    double tol_rad;        /* converged where a kept step is shorter; 1e-6 */
+    double initial_lambda; /* the first damping; 1e-3 */
+    double lambda_up;      /* the factor after a rejected step; 10 */
+    double lambda_down;    /* the divisor after a kept step; 10 */
+    bool robust;           /* weigh stars by Huber's rule */
+    double huber_k;        /* its constant; 1.345 */
+} pointing_fit_options;
+
+typedef struct {
+    uint8_t refusal;
+    double sky_rms, popn_sd;
+    size_t n_free, rank;             /* free terms, and how many of them the stars tell apart */
+    double sigma_max, sigma_min, tol; /* largest and smallest singular value, and from where on one counts */
+    size_t iterations;               /* trials, without the last undamped one; the single step says 1 */
+    bool converged;
+    double final_lambda, final_step_norm;
+} pointing_fit_answer;
+
+/* Both fits of n stars to m terms. The iterated one returns the best of the sets that it tried (docs/PROMISES.md, demand 3). The single step
+ * asks questions 1 to 5 and 7 to 13, the iterated fit 1 to 13.
+ *
+ * Read: m names; m fixed flags (0 free, 1 keeps its coefficient); m start coefficients; n differences in hour angle and n in declination,
+ * observed less commanded; n pier codes; n sheets; fit_tol: a singular value counts where it is above fit_tol times the largest.
+ * Written, where accepted: m coefficients to out, m changes from the start to change, m to sigma, 3 n to diagnostics (residual on the sky, leverage,
+ * studentized residual for each star), zeros to the scratch asked for. Places behind these are kept. */
+pointing_fit_answer pointing_fit_model(const uint8_t *names, size_t names_len, const uint8_t *fixed, size_t fixed_len, const double *coefficients,
+                                       size_t coefficients_len, const double *dh, size_t dh_len, const double *dd, size_t dd_len,
+                                       const uint8_t *pier, size_t pier_len, const double *sheets, size_t sheets_len, double sin_lat,
+                                       double cos_lat, double fit_tol, double *out, size_t out_len, double *change, size_t change_len,
+                                       double *sigma, size_t sigma_len, double *diagnostics, size_t diagnostics_len, double *scratch,
+                                       size_t scratch_len);
+
+pointing_fit_answer pointing_fit_model_iterated(const uint8_t *names, size_t names_len, const uint8_t *fixed, size_t fixed_len,
+                                                const double *coefficients, size_t coefficients_len, const double *dh, size_t dh_len,
+                                                const double *dd, size_t dd_len, const uint8_t *pier, size_t pier_len, const double *sheets,
+                                                size_t sheets_len, double sin_lat, double cos_lat, double fit_tol,
+                                                pointing_fit_options options, double *out, size_t out_len, double *change, size_t change_len,
+                                                double *sigma, size_t sigma_len, double *diagnostics, size_t diagnostics_len, double *scratch,
+                                                size_t scratch_len);
+
+#ifdef __cplusplus
+}
+#endif
+
+#endif
