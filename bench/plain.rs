@@ -38,6 +38,17 @@ fn turn(a: &mut Columns, p: usize, q: usize, c: f64, s: f64) {
     }
 }
 
+/// c and s of a pair.
+fn rotation(alpha: f64, beta: f64, gamma: f64) -> (f64, f64) {
+    let zeta = (beta - alpha) / (2.0 * gamma);
+    let mut t = 1.0 / (zeta.abs() + (1.0 + zeta * zeta).sqrt());
+    if zeta < 0.0 {
+        t = -t;
+    }
+    let c = 1.0 / (1.0 + t * t).sqrt();
+    (c, c * t)
+}
+
 /// How many sweeps were made, and whether the last had no turn.
 pub fn factorise(a: &mut Columns, v: &mut Columns) -> (usize, bool) {
     let m = a.len();
@@ -49,14 +60,39 @@ pub fn factorise(a: &mut Columns, v: &mut Columns) -> (usize, bool) {
                 let beta = dot(&a[q], &a[q]);
                 let gamma = dot(&a[p], &a[q]);
                 if gamma * gamma > 2.0_f64.powi(-100) * (alpha * beta) {
-                    let zeta = (beta - alpha) / (2.0 * gamma);
-                    let mut t = 1.0 / (zeta.abs() + (1.0 + zeta * zeta).sqrt());
-                    if zeta < 0.0 {
-                        t = -t;
+                    let (c, s) = rotation(alpha, beta, gamma);
+                    turn(a, p, q, c, s);
+                    turn(v, p, q, c, s);
+                    turned = true;
+                }
+            }
+        }
+        if !turned {
+            return (made, true);
+        }
+    }
+    (30, false)
+}
+
+/// The same with the columns of `a` and `v` in one slice, h numbers a column, and the three sums in one pass.
+pub fn factorise_in_one_pass(w: &mut [f64], h: usize, rows: usize, m: usize) -> (usize, bool) {
+    for made in 1..=30 {
+        let mut turned = false;
+        for p in 0..m {
+            for q in p + 1..m {
+                let (left, right) = w.split_at_mut(q * h);
+                let (x, y) = (&mut left[p * h..][..rows + m], &mut right[..rows + m]);
+                let (mut gamma, mut alpha, mut beta) = (0.0, 0.0, 0.0);
+                for (p, q) in x[..rows].iter().zip(&y[..rows]) {
+                    gamma += p * q;
+                    alpha += p * p;
+                    beta += q * q;
+                }
+                if gamma * gamma > 2.0_f64.powi(-100) * (alpha * beta) {
+                    let (c, s) = rotation(alpha, beta, gamma);
+                    for (x, y) in x.iter_mut().zip(y) {
+                        (*x, *y) = (c * *x - s * *y, s * *x + c * *y);
                     }
-                    let c = 1.0 / (1.0 + t * t).sqrt();
-                    turn(a, p, q, c, c * t);
-                    turn(v, p, q, c, c * t);
                     turned = true;
                 }
             }

@@ -84,6 +84,10 @@ impl Lent {
         &self.w[self.rows..]
     }
 
+    fn factorise_in_one_pass(&mut self) -> (usize, bool) {
+        plain::factorise_in_one_pass(&mut self.w[self.rows..], self.h, self.rows, self.m)
+    }
+
     fn factorise(&mut self) -> Sweeps {
         let w = &mut self.w[self.rows..];
         unsafe { pointing_factorise(w.as_mut_ptr(), w.len(), self.h, self.rows, self.m) }
@@ -174,9 +178,9 @@ fn seconds(work: impl FnOnce()) -> f64 {
 
 fn report(what: &str, rows: usize, m: usize, sweeps: usize, plain: f64, ours: f64) {
     println!(
-        "{what} {rows} x {m}, {sweeps} sweeps: plain Rust {:.1} us, Rattle {:.1} us, {:.2} times as fast",
-        plain * 1e6,
+        "| {what} | {rows} x {m} | {sweeps} | {:.1} | {:.1} | {:.2} |",
         ours * 1e6,
+        plain * 1e6,
         plain / ours
     );
 }
@@ -188,6 +192,7 @@ fn time(random: &mut Random, rows: usize, m: usize, runs: usize) {
         .collect();
     let b: Vec<f64> = (0..rows).map(|_| random.half()).collect();
     let (mut factorise, mut solve) = ((f64::MAX, f64::MAX), (f64::MAX, f64::MAX));
+    let mut one_pass = f64::MAX;
     let (mut sweeps, mut damped_sweeps) = (0, 0);
     for _ in 0..runs {
         let (mut u, mut v) = (a.clone(), plain::identity(m));
@@ -202,6 +207,10 @@ fn time(random: &mut Random, rows: usize, m: usize, runs: usize) {
         };
         factorise.1 = factorise.1.min(seconds(|| ours = lent.factorise()));
         assert_eq!(made, (ours.made, ours.settled));
+        let mut rust = Lent::with_identity(&a, &b);
+        one_pass = one_pass.min(seconds(|| made = rust.factorise_in_one_pass()));
+        assert_eq!(made, (ours.made, ours.settled));
+        assert!(all_same(&rust.w, &lent.w));
         for j in 0..m {
             let column = &lent.columns()[j * lent.h..];
             assert!(all_same(&column[..rows], &u[j]) && all_same(&column[rows..rows + m], &v[j]));
@@ -221,7 +230,15 @@ fn time(random: &mut Random, rows: usize, m: usize, runs: usize) {
         assert_same(&ours, &leverage, &plain, "timed");
         damped_sweeps = ours.sweeps;
     }
-    report("factorise   ", rows, m, sweeps, factorise.0, factorise.1);
+    report("factorise", rows, m, sweeps, factorise.0, factorise.1);
+    report(
+        "Rust's, in one pass",
+        rows,
+        m,
+        sweeps,
+        factorise.0,
+        one_pass,
+    );
     report("solve_damped", rows, m, damped_sweeps, solve.0, solve.1);
 }
 
@@ -251,11 +268,14 @@ fn compare(random: &mut Random, cases: u64) {
         deficient += (plain.rank < m) as u32;
     }
     println!(
-        "solve_damped equal in {cases} systems, {nans} with a NaN in x, {deficient} rank deficient"
+        "\n`solve_damped` equal in {cases} systems, {nans} with a NaN in x, {deficient} rank deficient."
     );
 }
 
 fn main() {
+    println!("### Solver\n\nMicroseconds a call:\n");
+    println!("| call | rows x columns | sweeps | library | plain Rust | times as fast |");
+    println!("|---|---|---|---|---|---|");
     let mut random = Random(88172645463325252);
     for (rows, m, runs) in [(2048, 32, 20), (200, 16, 1000), (40, 6, 20000)] {
         time(&mut random, rows, m, runs);

@@ -1,14 +1,13 @@
 //! The square root of the static library beside the processor's: all edge patterns and many random ones must agree in their bits, and
-//! both are timed in one run. Prints the ratio of the times.
+//! both are timed in one run.
+#[path = "../ffi/pointing.rs"]
+mod pointing;
+
 use std::hint::black_box;
 use std::time::Instant;
 
-extern "C" {
-    fn pointing_sqrt(x: f64) -> f64;
-}
-
 fn ours(x: f64) -> f64 {
-    unsafe { pointing_sqrt(x) }
+    pointing::sqrt(x)
 }
 
 #[inline(never)]
@@ -94,10 +93,13 @@ fn time(xs: &[f64], f: impl Fn(f64) -> f64) -> f64 {
 
 fn main() {
     let t = agree();
+    println!("### Square root\n");
     println!(
-        "{} patterns, {} different from the processor's",
+        "{} patterns, {} different from the processor's. Nanoseconds a call:\n",
         t.patterns, t.different
     );
+    println!("| numbers | library | processor | times as long |");
+    println!("|---|---|---|---|");
     let mut r = Random(3037000493);
     let sorts: [(&str, fn(u64) -> u64); 3] = [
         ("normal values", |b| {
@@ -109,10 +111,7 @@ fn main() {
     for (name, of) in sorts {
         let xs: Vec<f64> = (0..4096).map(|_| f64::from_bits(of(r.next()))).collect();
         let (a, b) = (time(&xs, ours), time(&xs, processor));
-        println!(
-            "{name}: {a:.1} ns a call, processor {b:.1} ns, ratio {:.2}",
-            a / b
-        );
+        println!("| {name} | {a:.1} | {b:.1} | {:.2} |", a / b);
     }
     std::process::exit(if t.different == 0 { 0 } else { 1 });
 }
