@@ -9,6 +9,7 @@ use lib.Ieee.{Float, binary64, neg, lt, ofBits}
 use Rattle.float.specs.Float.{_⊕_, _⊖_, _⊗_, _⊘_, #0, #1, #2, abs}
 use Rattle.sequence.specs.Sequence.{part, each, dot}
 use Rattle.sqrt.specs.Sqrt as Root
+use Rattle.jacobi.specs.declared.Products.{Products}
 
 abbrev pub sqrt : Float → Float
 sqrt x = Root.sqrt binary64 x
@@ -16,6 +17,10 @@ sqrt x = Root.sqrt binary64 x
 -- 2^-100
 abbrev pub tiny : Float
 tiny = ofBits binary64 0x39b0_0000_0000_0000
+
+-- columns turn only if γ·γ > 2^-100·(α·β)
+abbrev pub turns : Float → Float → Float → Bool
+turns α β γ = lt (tiny ⊗ (α ⊗ β)) (γ ⊗ γ)
 
 -- ζ = (β-α)/(2·γ)
 unfoldable pub zetaOf : Float → Float → Float → Float
@@ -50,7 +55,7 @@ pub record State : Type 0 where
 abbrev pub col : ℕ → ℕ → List Float → ℕ → List Float
 col h rows w j = part w (j * h) rows
 
--- columns p and q turn only if γ·γ > 2^-100·(α·β), and V's rows turn with A's; s = c·t
+-- columns p and q; V's rows turn with A's; s = c·t
 unfoldable pub pair : ℕ → ℕ → ℕ → ℕ → ℕ → State → State
 pair h rows m p q st =
     let x = col h rows (st .w) p in
@@ -61,7 +66,7 @@ pair h rows m p q st =
     let t = tanOf (zetaOf α β γ) in
     let c = cosOf t in
     let s = c ⊗ t in
-    cond (lt (tiny ⊗ (α ⊗ β)) (γ ⊗ γ))
+    cond (turns α β γ)
     (record { w = turn c s (rows + m) (p * h) (q * h) (st .w); turned = true })
     st
 
@@ -89,3 +94,10 @@ sweeps h rows m (suc n) k w =
 -- at most 30 sweeps are made
 abbrev pub factorised : ℕ → ℕ → ℕ → List Float → Factorised
 factorised h rows m w = sweeps h rows m 30 0 w
+
+-- α, β and γ of the n numbers from x on and the n from y on
+abbrev pub products : ℕ → ℕ → ℕ → List Float → Products
+products n x y w =
+    let p = part w x n in
+    let q = part w y n in
+    record { alpha = dot p p; beta = dot q q; gamma = dot p q }

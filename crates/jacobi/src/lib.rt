@@ -5,10 +5,10 @@
 
 ghost use mathlib.Core.Path.{_≡_};
 ghost use mathlib.Core.Bool.{Bool, cond, true};
-ghost use Prim.Native.Nat.{_+_, _*_, _≤_, _<_};
+ghost use Prim.Native.Nat.{_+_, _-_, _*_, _≤_, _<_};
 ghost use lib.ListN.{length};
-ghost use Rattle.sequence.specs.Sequence.{part, dot};
-ghost use Rattle.jacobi.specs.Jacobi.{zetaOf, tanOf, cosOf, turn as turnOf, pair as pairOf, factorised};
+ghost use Rattle.sequence.specs.Sequence.{part, dot, each};
+ghost use Rattle.jacobi.specs.Jacobi.{products, turns as turnsOf, zetaOf, tanOf, cosOf, turn as turnOf, pair as pairOf, row as rowOf, factorised};
 
 // The squared norms of two columns and their dot product.
 struct Products {
@@ -28,9 +28,7 @@ pub struct Sweeps {
 // gamma first the compiler adds the two norms as one vector.
 fn sums(w: &[f64], x: usize, y: usize, n: usize) -> Products
     requires { ⌜ (x + n ≤ length (now w)) × (y + n ≤ length (now w)) ⌝ }
-    ensures { λ r. ⌜ r ≡ (let p = part (now (w .entry)) x n in
-        let q = part (now (w .entry)) y n in
-        record { alpha = dot p p; beta = dot q q; gamma = dot p q }) ⌝ }
+    ensures { λ r. ⌜ r ≡ products n x y (now (w .entry)) ⌝ }
 {
     let mut gamma = 0.0;
     let mut alpha = 0.0;
@@ -79,21 +77,206 @@ fn cosine(t: f64) -> f64
     1.0 / sqrt::sqrt(x)
 }
 
-// Columns p and q: whether they turned. The number compared with is 2^-100.
-fn pair(w: &mut [f64], h: usize, rows: usize, m: usize, p: usize, q: usize) -> bool
-    requires { ⌜ (p < q) × (q < m) × (rows + m ≤ h) × (m * h ≤ length (now w)) ⌝ }
-    ensures { λ r. ⌜ ((b : Bool) → record { w = now (w .exit); turned = cond r true b } ≡ pairOf h rows m p q (record { w = now (w .entry); turned = b })) ⌝ }
+// Whether columns with these sums turn. The number compared with is 2^-100.
+fn turns(alpha: f64, beta: f64, gamma: f64) -> bool
+    ensures { λ r. ⌜ r ≡ turnsOf alpha beta gamma ⌝ }
+{
+    gamma * gamma > 7.888609052210118e-31 * (alpha * beta)
+}
+
+// The n numbers from x on and the n from y on, turned, and then the sums of those from x on and the n from z on,
+// in one pass. Two rows a step, and every load before the stores, so that the compiler turns them as one vector.
+fn turn_on(w: &mut [f64], x: usize, y: usize, z: usize, n: usize, c: f64, s: f64) -> Products
+    requires { ⌜ (x + n ≤ y) × (y + n ≤ z) × (z + n ≤ length (now w)) ⌝ }
+    ensures { λ r. ⌜ (now (w .exit) ≡ turnOf c s n x y (now (w .entry))) × (r ≡ products n x z (now (w .exit))) ⌝ }
+{
+    let mut gamma = 0.0;
+    let mut alpha = 0.0;
+    let mut beta = 0.0;
+    for half in 0..n / 2 {
+        let k = 2 * half;
+        let i = x + k;
+        let j = y + k;
+        let l = z + k;
+        let p = w[i];
+        let q = w[j];
+        let r = w[l];
+        let p1 = w[i + 1];
+        let q1 = w[j + 1];
+        let r1 = w[l + 1];
+        let t = c * p - s * q;
+        let t1 = c * p1 - s * q1;
+        let tt = t * t;
+        let tt1 = t1 * t1;
+        let rr = r * r;
+        let rr1 = r1 * r1;
+        let tr = t * r;
+        let tr1 = t1 * r1;
+        w[i] = t;
+        w[i + 1] = t1;
+        w[j] = s * p + c * q;
+        w[j + 1] = s * p1 + c * q1;
+        alpha = alpha + tt;
+        beta = beta + rr;
+        alpha = alpha + tt1;
+        beta = beta + rr1;
+        gamma = gamma + tr;
+        gamma = gamma + tr1;
+    }
+    let k = 2 * (n / 2);
+    if k == n {
+        return Products { alpha, beta, gamma };
+    }
+    let p = w[x + k];
+    let q = w[y + k];
+    let r = w[z + k];
+    let t = c * p - s * q;
+    w[x + k] = t;
+    w[y + k] = s * p + c * q;
+    Products {
+        alpha: alpha + t * t,
+        beta: beta + r * r,
+        gamma: gamma + t * r,
+    }
+}
+
+// Beta and gamma of a column with each of two others.
+struct Ahead {
+    beta1: f64,
+    beta2: f64,
+    gamma1: f64,
+    gamma2: f64,
+}
+
+// The sums of the n numbers from x on with the n from y on and the n from z on, without alpha, in one pass.
+fn look_ahead(w: &[f64], x: usize, y: usize, z: usize, n: usize) -> Ahead
+    requires { ⌜ (x + n ≤ length (now w)) × (y + n ≤ length (now w)) × (z + n ≤ length (now w)) ⌝ }
+    ensures { λ r. ⌜ (record { alpha = dot (part (now (w .entry)) x n) (part (now (w .entry)) x n); beta = r .beta1; gamma = r .gamma1 } ≡ products n x y (now (w .entry)))
+        × (record { alpha = dot (part (now (w .entry)) x n) (part (now (w .entry)) x n); beta = r .beta2; gamma = r .gamma2 } ≡ products n x z (now (w .entry))) ⌝ }
+{
+    let mut beta1 = 0.0;
+    let mut beta2 = 0.0;
+    let mut gamma1 = 0.0;
+    let mut gamma2 = 0.0;
+    for k in 0..n {
+        let p = w[x + k];
+        let q = w[y + k];
+        let r = w[z + k];
+        beta1 = beta1 + q * q;
+        beta2 = beta2 + r * r;
+        gamma1 = gamma1 + p * q;
+        gamma2 = gamma2 + p * r;
+    }
+    Ahead {
+        beta1,
+        beta2,
+        gamma1,
+        gamma2,
+    }
+}
+
+// Where a step leaves a row of pairs: the sums of its column with column q, and whether the step turned a pair.
+struct Place {
+    alpha: f64,
+    beta: f64,
+    gamma: f64,
+    q: usize,
+    turned: bool,
+}
+
+// The pair of columns p and q, and that of p and q + 1 too where neither this nor the one after it turns.
+fn step(
+    w: &mut [f64],
+    h: usize,
+    rows: usize,
+    m: usize,
+    p: usize,
+    q: usize,
+    alpha: f64,
+    beta: f64,
+    gamma: f64,
+) -> Place
+    requires { ⌜ (p < q) × (q + 1 < m) × (rows + m ≤ h) × (m * h ≤ length (now w)) × (record { alpha = alpha; beta = beta; gamma = gamma } ≡ products rows (p * h) (q * h) (now w)) ⌝ }
+    ensures { λ r. ⌜ (q < r .q) × (r .q < m) × (record { alpha = r .alpha; beta = r .beta; gamma = r .gamma } ≡ products rows (p * h) (r .q * h) (now (w .exit)))
+        × ((b : Bool) → record { w = now (w .exit); turned = cond (r .turned) true b } ≡ each (r .q - q) q (pairOf h rows m p) (record { w = now (w .entry); turned = b })) ⌝ }
 {
     let x = p * h;
     let y = q * h;
-    let a = sums(w, x, y, rows);
-    if a.gamma * a.gamma > 7.888609052210118e-31 * (a.alpha * a.beta) {
-        let t = tangent(a.alpha, a.beta, a.gamma);
+    let z = y + h;
+    if turns(alpha, beta, gamma) {
+        let t = tangent(alpha, beta, gamma);
         let c = cosine(t);
-        turn(w, x, y, rows + m, c, c * t);
+        let a = turn_on(w, x, y, z, rows, c, c * t);
+        turn(w, x + rows, y + rows, m, c, c * t);
+        return Place {
+            alpha: a.alpha,
+            beta: a.beta,
+            gamma: a.gamma,
+            q: q + 1,
+            turned: true,
+        };
+    }
+    if q + 2 < m {
+        let b = look_ahead(w, x, z, z + h, rows);
+        if turns(alpha, b.beta1, b.gamma1) | turns(alpha, b.beta2, b.gamma2) {
+            return Place {
+                alpha,
+                beta: b.beta1,
+                gamma: b.gamma1,
+                q: q + 1,
+                turned: false,
+            };
+        }
+        return Place {
+            alpha,
+            beta: b.beta2,
+            gamma: b.gamma2,
+            q: q + 2,
+            turned: false,
+        };
+    }
+    let a = sums(w, x, z, rows);
+    Place {
+        alpha: a.alpha,
+        beta: a.beta,
+        gamma: a.gamma,
+        q: q + 1,
+        turned: false,
+    }
+}
+
+// The pairs of p with each q above it: whether one turned.
+fn row(w: &mut [f64], h: usize, rows: usize, m: usize, p: usize) -> bool
+    requires { ⌜ (p < m) × (rows + m ≤ h) × (m * h ≤ length (now w)) ⌝ }
+    ensures { λ r. ⌜ ((b : Bool) → record { w = now (w .exit); turned = cond r true b } ≡ rowOf h rows m p (record { w = now (w .entry); turned = b })) ⌝ }
+{
+    if m == p + 1 {
+        return false;
+    }
+    let x = p * h;
+    let a = sums(w, x, x + h, rows);
+    let mut alpha = a.alpha;
+    let mut beta = a.beta;
+    let mut gamma = a.gamma;
+    let mut q = p + 1;
+    let mut turned = false;
+    while q + 1 < m {
+        let at = step(w, h, rows, m, p, q, alpha, beta, gamma);
+        alpha = at.alpha;
+        beta = at.beta;
+        gamma = at.gamma;
+        q = at.q;
+        if at.turned {
+            turned = true;
+        }
+    }
+    if turns(alpha, beta, gamma) {
+        let t = tangent(alpha, beta, gamma);
+        let c = cosine(t);
+        turn(w, x, q * h, rows + m, c, c * t);
         return true;
     }
-    false
+    turned
 }
 
 // Sweeps until one in which no pair turns, at most 30.
@@ -106,10 +289,8 @@ pub fn factorise(w: &mut [f64], h: usize, rows: usize, m: usize) -> Sweeps
     'sweeps: while made < 30 {
         let mut turned = false;
         for p in 0..m {
-            for q in p + 1..m {
-                if pair(w, h, rows, m, p, q) {
-                    turned = true;
-                }
+            if row(w, h, rows, m, p) {
+                turned = true;
             }
         }
         made += 1;
