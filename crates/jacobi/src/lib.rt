@@ -85,7 +85,8 @@ fn turns(alpha: f64, beta: f64, gamma: f64) -> bool
 }
 
 // The n numbers from x on and the n from y on, turned, and then the sums of those from x on and the n from z on,
-// in one pass. Two rows a step, and every load before the stores, so that the compiler turns them as one vector.
+// in one pass. Two rows a step, and what is turned loaded before the stores, so that the compiler turns them as one
+// vector; the factors of gamma loaded after them, since it then takes them as another.
 fn turn_on(w: &mut [f64], x: usize, y: usize, z: usize, n: usize, c: f64, s: f64) -> Products
     requires { ⌜ (x + n ≤ y) × (y + n ≤ z) × (z + n ≤ length (now w)) ⌝ }
     ensures { λ r. ⌜ (now (w .exit) ≡ turnOf c s n x y (now (w .entry))) × (r ≡ products n x z (now (w .exit))) ⌝ }
@@ -110,12 +111,12 @@ fn turn_on(w: &mut [f64], x: usize, y: usize, z: usize, n: usize, c: f64, s: f64
         let tt1 = t1 * t1;
         let rr = r * r;
         let rr1 = r1 * r1;
-        let tr = t * r;
-        let tr1 = t1 * r1;
         w[i] = t;
         w[i + 1] = t1;
         w[j] = s * p + c * q;
         w[j + 1] = s * p1 + c * q1;
+        let tr = t * w[l];
+        let tr1 = t1 * w[l + 1];
         alpha = alpha + tt;
         beta = beta + rr;
         alpha = alpha + tt1;

@@ -115,6 +115,21 @@ mul-w-4 c = omega arith
 slice-write-w-4 : tie.Need-slice-write-w-4 Inv-loop μ-loop
 slice-write-w-4 c = simp length-set (omega arith)
 
+mul-tr : tie.Need-mul-tr Inv-loop μ-loop
+mul-tr c = omega arith
+
+slice-read-tr : tie.Need-slice-read-tr Inv-loop μ-loop
+slice-read-tr c = simp length-set (omega arith)
+
+add-tr1 : tie.Need-add-tr1 Inv-loop μ-loop
+add-tr1 c = omega arith
+
+mul-tr1 : tie.Need-mul-tr1 Inv-loop μ-loop
+mul-tr1 c = omega arith
+
+slice-read-tr1 : tie.Need-slice-read-tr1 Inv-loop μ-loop
+slice-read-tr1 c = simp length-set (omega arith)
+
 add-half : tie.Need-add-half Inv-loop μ-loop
 add-half c = omega arith
 
@@ -123,27 +138,30 @@ loop-less c = omega arith
 
 loop-again : tie.Need-loop-again Inv-loop μ-loop
 loop-again c =
-    let u = c .before .before .before .before .before .before .before .loop in
-    let a = c .before .before .before .before .before .before .before .before .args in
+    let u = c .before .before .before .before .before .before .before .before .before .loop in
+    let a = c .before .before .before .before .before .before .before .before .before .before .args in
     let l = a .w .now in
     let T = turn (a .c) (a .s) (a .n) (a .x) (a .y) l in
     let k = 2 * u .half in
     let long : length T ≡ length l = turn-length _ _ (a .n) (a .x) (a .y) l in
-    let x₀ = end-x _ _ (a .n) k (a .x) (a .y) (a .z) l (u .w) (u .inv .2) (omega arith) (omega arith) (omega arith) k (omega arith) (omega arith) in
-    let z₀ = end-z _ _ (a .n) k (a .x) (a .y) (a .z) l (u .w) (u .inv .2) (omega arith) (omega arith) (omega arith) k (omega arith) (omega arith) in
-    let x₁ = end-x _ _ (a .n) k (a .x) (a .y) (a .z) l (u .w) (u .inv .2) (omega arith) (omega arith) (omega arith) (k + 1) (omega arith) (omega arith) in
-    let z₁ = end-z _ _ (a .n) k (a .x) (a .y) (a .z) l (u .w) (u .inv .2) (omega arith) (omega arith) (omega arith) (k + 1) (omega arith) (omega arith) in
     let e : 2 * (u .half + 1) ≡ k + 2 = omega arith in
     let ex : a .x + k + 1 ≡ a .x + (k + 1) = omega arith in
     let ey : a .y + k + 1 ≡ a .y + (k + 1) = omega arith in
-    let ez : a .z + k + 1 ≡ a .z + (k + 1) = omega arith in (
+    let ez : a .z + k + 1 ≡ a .z + (k + 1) = omega arith in
+    let after = turn-two _ _ k (a .x) (a .y) l (u .w) (u .inv .2) (omega arith) (omega arith) in
+    let x₀ = end-x _ _ (a .n) k (a .x) (a .y) (a .z) l (u .w) (u .inv .2) (omega arith) (omega arith) (omega arith) k (omega arith) (omega arith) in
+    let x₁ = end-x _ _ (a .n) k (a .x) (a .y) (a .z) l (u .w) (u .inv .2) (omega arith) (omega arith) (omega arith) (k + 1) (omega arith) (omega arith) in
+    let z₀ = end-z _ _ (a .n) k (a .x) (a .y) (a .z) l (u .w) (u .inv .2) (omega arith) (omega arith) (omega arith) k (omega arith) (omega arith) in
+    let z₁ = end-z _ _ (a .n) k (a .x) (a .y) (a .z) l (u .w) (u .inv .2) (omega arith) (omega arith) (omega arith) (k + 1) (omega arith) (omega arith) in
+    let g₀ = end-z _ _ (a .n) (k + 2) (a .x) (a .y) (a .z) l _ after (omega arith) (omega arith) (omega arith) k (omega arith) (omega arith) in
+    let g₁ = end-z _ _ (a .n) (k + 2) (a .x) (a .y) (a .z) l _ after (omega arith) (omega arith) (omega arith) (k + 1) (omega arith) (omega arith) in (
       u .inv .0,
       omega arith,
-      rw e (turn-two _ _ k (a .x) (a .y) l (u .w) (u .inv .2) (omega arith) (omega arith)),
+      rw e after,
       simp length-set (omega arith),
       rw (e, ex, ey) (dot-two T (a .x) (a .x) k _ _ _ _ _ (u .inv .4) (omega arith) (omega arith) x₀ x₀ x₁ x₁),
       rw (e, ez) (dot-two T (a .z) (a .z) k _ _ _ _ _ (u .inv .5) (omega arith) (omega arith) z₀ z₀ z₁ z₁),
-      rw (e, ex, ey, ez) (dot-two T (a .x) (a .z) k _ _ _ _ _ (u .inv .6) (omega arith) (omega arith) x₀ z₀ x₁ z₁),
+      rw (e, ez) (dot-two T (a .x) (a .z) k _ _ _ _ _ (u .inv .6) (omega arith) (omega arith) x₀ g₀ (rw (ex, ey) x₁) g₁),
     )
 
 mul-k-2 : tie.Need-mul-k-2 Inv-loop μ-loop
@@ -265,6 +283,11 @@ turn-on-spec =
     add-w-2
     mul-w-4
     slice-write-w-4
+    mul-tr
+    slice-read-tr
+    add-tr1
+    mul-tr1
+    slice-read-tr1
     add-half
     loop-less
     loop-again
