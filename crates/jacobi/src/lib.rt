@@ -8,7 +8,7 @@ ghost use mathlib.Core.Bool.{Bool, cond, true};
 ghost use Prim.Native.Nat.{_+_, _-_, _*_, _≤_, _<_};
 ghost use lib.ListN.{length};
 ghost use Rattle.sequence.specs.Sequence.{part, dot, each};
-ghost use Rattle.jacobi.specs.Jacobi.{products, turns as turnsOf, zetaOf, tanOf, cosOf, turn as turnOf, pair as pairOf, row as rowOf, factorised};
+ghost use Rattle.jacobi.specs.Jacobi.{products, turns as turnsOf, zetaOf, tanOf, cosOf, turn as turnOf, pair as pairOf, factorised};
 
 // The squared norms of two columns and their dot product.
 struct Products {
@@ -176,108 +176,70 @@ fn look_ahead(w: &[f64], x: usize, y: usize, z: usize, n: usize) -> Ahead
     }
 }
 
-// Where a step leaves a row of pairs: the sums of its column with column q, and whether the step turned a pair.
-struct Place {
+// How far a run of pairs went: the squared norm of its column, if it is not the last pair, the next q, and whether a pair turned.
+struct Run {
     alpha: f64,
-    beta: f64,
-    gamma: f64,
     q: usize,
     turned: bool,
 }
 
-// The pair of columns p and q, and that of p and q + 1 too where neither this nor the one after it turns.
-fn step(
-    w: &mut [f64],
-    h: usize,
-    rows: usize,
-    m: usize,
-    p: usize,
-    q: usize,
-    alpha: f64,
-    beta: f64,
-    gamma: f64,
-) -> Place
-    requires { ⌜ (p < q) × (q + 1 < m) × (rows + m ≤ h) × (m * h ≤ length (now w)) × (record { alpha = alpha; beta = beta; gamma = gamma } ≡ products rows (p * h) (q * h) (now w)) ⌝ }
-    ensures { λ r. ⌜ (q < r .q) × (r .q < m) × (record { alpha = r .alpha; beta = r .beta; gamma = r .gamma } ≡ products rows (p * h) (r .q * h) (now (w .exit)))
-        × ((b : Bool) → record { w = now (w .exit); turned = cond (r .turned) true b } ≡ each (r .q - q) q (pairOf h rows m p) (record { w = now (w .entry); turned = b })) ⌝ }
+// The pairs of p with each q from `from` on as long as they turn, and the first that does not.
+fn turn_run(w: &mut [f64], h: usize, rows: usize, m: usize, p: usize, from: usize) -> Run
+    requires { ⌜ (p < from) × (from < m) × (rows + m ≤ h) × (m * h ≤ length (now w)) ⌝ }
+    ensures { λ r. ⌜ (from < r .q) × (r .q ≤ m) × (r .q < m → r .alpha ≡ dot (part (now (w .exit)) (p * h) rows) (part (now (w .exit)) (p * h) rows))
+        × ((b : Bool) → record { w = now (w .exit); turned = cond (r .turned) true b } ≡ each (r .q - from) from (pairOf h rows m p) (record { w = now (w .entry); turned = b })) ⌝ }
 {
     let x = p * h;
-    let y = q * h;
-    let z = y + h;
-    if turns(alpha, beta, gamma) {
-        let t = tangent(alpha, beta, gamma);
-        let c = cosine(t);
-        let a = turn_on(w, x, y, z, rows, c, c * t);
-        turn(w, x + rows, y + rows, m, c, c * t);
-        return Place {
-            alpha: a.alpha,
-            beta: a.beta,
-            gamma: a.gamma,
-            q: q + 1,
-            turned: true,
-        };
-    }
-    if q + 2 < m {
-        let b = look_ahead(w, x, z, z + h, rows);
-        if turns(alpha, b.beta1, b.gamma1) | turns(alpha, b.beta2, b.gamma2) {
-            return Place {
-                alpha,
-                beta: b.beta1,
-                gamma: b.gamma1,
-                q: q + 1,
-                turned: false,
-            };
-        }
-        return Place {
-            alpha,
-            beta: b.beta2,
-            gamma: b.gamma2,
-            q: q + 2,
-            turned: false,
-        };
-    }
-    let a = sums(w, x, z, rows);
-    Place {
-        alpha: a.alpha,
-        beta: a.beta,
-        gamma: a.gamma,
-        q: q + 1,
-        turned: false,
-    }
-}
-
-// The pairs of p with each q above it: whether one turned.
-fn row(w: &mut [f64], h: usize, rows: usize, m: usize, p: usize) -> bool
-    requires { ⌜ (p < m) × (rows + m ≤ h) × (m * h ≤ length (now w)) ⌝ }
-    ensures { λ r. ⌜ ((b : Bool) → record { w = now (w .exit); turned = cond r true b } ≡ rowOf h rows m p (record { w = now (w .entry); turned = b })) ⌝ }
-{
-    if m == p + 1 {
-        return false;
-    }
-    let x = p * h;
-    let a = sums(w, x, x + h, rows);
+    let a = sums(w, x, from * h, rows);
     let mut alpha = a.alpha;
     let mut beta = a.beta;
     let mut gamma = a.gamma;
-    let mut q = p + 1;
+    let mut q = from;
     let mut turned = false;
-    while q + 1 < m {
-        let at = step(w, h, rows, m, p, q, alpha, beta, gamma);
-        alpha = at.alpha;
-        beta = at.beta;
-        gamma = at.gamma;
-        q = at.q;
-        if at.turned {
-            turned = true;
-        }
-    }
-    if turns(alpha, beta, gamma) {
+    while turns(alpha, beta, gamma) {
         let t = tangent(alpha, beta, gamma);
         let c = cosine(t);
-        turn(w, x, q * h, rows + m, c, c * t);
-        return true;
+        let y = q * h;
+        if q + 1 == m {
+            turn(w, x, y, rows + m, c, c * t);
+            return Run {
+                alpha,
+                q: m,
+                turned: true,
+            };
+        }
+        let next = turn_on(w, x, y, y + h, rows, c, c * t);
+        turn(w, x + rows, y + rows, m, c, c * t);
+        alpha = next.alpha;
+        beta = next.beta;
+        gamma = next.gamma;
+        q += 1;
+        turned = true;
     }
-    turned
+    Run {
+        alpha,
+        q: q + 1,
+        turned,
+    }
+}
+
+// The next q, from `from` on, of which the pair with p or the one after it turns, or where too few are left to see
+// two at a time.
+fn still_run(w: &[f64], h: usize, rows: usize, m: usize, p: usize, from: usize, alpha: f64) -> usize
+    requires { ⌜ (p < from) × (from ≤ m) × (rows + m ≤ h) × (m * h ≤ length (now w)) × (from < m → alpha ≡ dot (part (now w) (p * h) rows) (part (now w) (p * h) rows)) ⌝ }
+    ensures { λ r. ⌜ (from ≤ r) × (r ≤ m) × ((b : Bool) → record { w = now (w .entry); turned = b } ≡ each (r - from) from (pairOf h rows m p) (record { w = now (w .entry); turned = b })) ⌝ }
+{
+    let x = p * h;
+    let mut q = from;
+    while q + 1 < m {
+        let y = q * h;
+        let b = look_ahead(w, x, y, y + h, rows);
+        if turns(alpha, b.beta1, b.gamma1) | turns(alpha, b.beta2, b.gamma2) {
+            return q;
+        }
+        q += 2;
+    }
+    q
 }
 
 // Sweeps until one in which no pair turns, at most 30.
@@ -290,8 +252,13 @@ pub fn factorise(w: &mut [f64], h: usize, rows: usize, m: usize) -> Sweeps
     'sweeps: while made < 30 {
         let mut turned = false;
         for p in 0..m {
-            if row(w, h, rows, m, p) {
-                turned = true;
+            let mut q = p + 1;
+            while q < m {
+                let run = turn_run(w, h, rows, m, p, q);
+                if run.turned {
+                    turned = true;
+                }
+                q = still_run(w, h, rows, m, p, run.q, run.alpha);
             }
         }
         made += 1;

@@ -6,7 +6,7 @@ use native.Mathlib.Omega.{arith}
 use lib.ListN.{length, length-set}
 use Rattle.sequence.specs.Sequence.{part, dot}
 use Rattle.sequence.proofs.Sums.{dot-part-none}
-use Rattle.jacobi.specs.Jacobi.{turn, newP, newQ}
+use Rattle.jacobi.specs.Jacobi.{turn}
 use Rattle.jacobi.proofs.Laws.{turn-zero, turn-length, turn-step, turn-two, end-x, end-z, dot-two, dot-last, products-are}
 use Rattle.jacobi.proofs.turn_on.Statement.{statement}
 use Rattle.jacobi.proofs.turn_on.Tie as tie
