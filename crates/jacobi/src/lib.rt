@@ -176,7 +176,7 @@ fn look_ahead(w: &[f64], x: usize, y: usize, z: usize, n: usize) -> Ahead
     }
 }
 
-// How far a run of pairs went: the squared norm of its column, if it is not the last pair, the next q, and whether a pair turned.
+// Where a run of pairs of p ends: the squared norm of column p, if a pair is left, the next q, and whether one turned.
 struct Run {
     alpha: f64,
     q: usize,
