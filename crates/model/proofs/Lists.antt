@@ -1,5 +1,5 @@
--- Places that were filled, sums of equal numbers, and a test of one element more. Assumes nothing.
-use Prim.Native.Nat.{ℕ, zero, suc, _<_}
+-- Places that were filled, sums of equal numbers, a test of one element more, and a part of a front. Assumes nothing.
+use Prim.Native.Nat.{ℕ, zero, suc, _+_, _-_, _≤_, _<_}
 use native.Mathlib.Nat.{le-antisymm}
 use native.Mathlib.Omega.{arith}
 use mathlib.Core.Path.{_≡_, refl, sym, _∙_, ap, ap₂}
@@ -8,10 +8,10 @@ use mathlib.Core.List.{List, [], _∷_, _++_}
 use borrow.Author.Tests.{ltb-true, ltb-false}
 use lib.Dec.{ltb}
 use lib.ListN.{length, take, drop, List·getD-append}
-use lib.Seq.{getD-at, take-at, ext-getD}
+use lib.Seq.{getD-at, take-at, take-add, take-take, drop-at, length-take-le, ext-getD}
 use lib.Ieee.{Float, nan, ofBits}
 use Rattle.float.specs.Float.{#0, _⊕_, isFinite}
-use Rattle.sequence.specs.Sequence.{every, at, table, filled, sumTo}
+use Rattle.sequence.specs.Sequence.{part, every, at, table, filled, sumTo}
 use Rattle.sequence.proofs.Fills.{table-length}
 use Rattle.terms.proofs.Both.{left-of, right-of}
 
@@ -54,3 +54,12 @@ every-snoc p (y ∷ l) x e h = rw (left-of (p y) (every p l) e, every-snoc p l x
 pub zero-finite : isFinite #0 ≡ true
 unfolding isFinite ofBits
 zero-finite = refl
+
+-- a part that lies in the front of a list
+pub part-take : {A : Type 0} (l : List A) (i n k : ℕ) → i + n ≤ k → k ≤ length l → part (take k l) i n ≡ part l i n
+part-take l i n k h g =
+    let split : k ≡ i + (k - i) = omega arith in
+    let e : take k l ≡ take i l ++ take (k - i) (drop i l) = ap (λ (z : ℕ). take z l) split ∙ take-add i (k - i) l in
+    ap (λ r. part r i n) e
+    ∙ ap (take n) (drop-at (take i l) (take (k - i) (drop i l)) i (length-take-le i l (omega arith)))
+    ∙ take-take n (k - i) (drop i l) (omega arith)

@@ -1,10 +1,10 @@
--- A name that is read is stored in sixteen bytes, and these are read too. Assumes nothing.
+-- A name that is read is stored in sixteen bytes, and these are read too, and stored as themselves. Assumes nothing.
 use Prim.Native.Char.{code}
 use Prim.Native.Nat.{ℕ, zero, suc, _+_, _-_, _≤_, _<_}
 use native.Mathlib.Omega.{arith}
-use mathlib.Core.Path.{_≡_, refl, sym, _∙_, ap, ap₂}
+use mathlib.Core.Path.{_≡_, refl, sym, _∙_, ap, ap₂, subst}
 use mathlib.Core.Option.{Option, none, some}
-use mathlib.Core.Bool.{Bool, true, false, cond, _&&_, _||_}
+use mathlib.Core.Bool.{Bool, true, false, cond, _&&_, _||_, false≢true}
 use mathlib.Core.List.{List, [], _∷_, _++_, map}
 use borrow.Author.Tests.{eq-eqb, eqb-true, eqb-false, ne-eqb, lt-ltb, ltb-true, leb-true, lt-leb}
 use lib.Dec.{eqb, ltb, leb}
@@ -16,7 +16,7 @@ use Rattle.harmonic.specs.Table.{ascii}
 use Rattle.harmonic.specs.Harmonic.{arrayOf, parseHarmonic}
 use Rattle.harmonic.specs.declared.HarmonicRead.{HarmonicRead}
 use Rattle.equatorial.specs.declared.EquatorialTerm.the-variants.{TXN}
-use Rattle.terms.specs.Names.{accepted, refused, capital, padded, nameOf, wellFormed, readTerm, byKnown, find, fixedNames, numbered, readHarmonic, harmonicOf, unsigned, digitsFrom, decimal}
+use Rattle.terms.specs.Names.{same, accepted, refused, capital, padded, nameOf, wellFormed, readTerm, byKnown, find, fixedNames, numbered, readHarmonic, harmonicOf, unsigned, digitsFrom, decimal}
 use Rattle.terms.specs.declared.Reading.{Reading}
 use Rattle.terms.specs.declared.TermKind.{TermKind}
 use Rattle.terms.specs.declared.names.Known.{Known}
@@ -109,6 +109,13 @@ module _ (s : List ℕ) (sixteen : length s ≡ 16) where
 
 -- ---- TX and a number
 
+same-equal : (a b : List ℕ) → same a b ≡ true → a ≡ b
+same-equal [] [] e = refl
+same-equal [] (y ∷ b) e = absurd (false≢true e)
+same-equal (x ∷ a) [] e = absurd (false≢true e)
+same-equal (x ∷ a) (y ∷ b) e =
+    ap₂ (λ (u : ℕ) (l : List ℕ). u ∷ l) (eqb-true x y (left-of (eqb x y) (same a b) e)) (same-equal a b (right-of (eqb x y) (same a b) e))
+
 allTo : ℕ → (ℕ → Bool) → Bool
 allTo zero p = true
 allTo (suc n) p = allTo n p && p n
@@ -123,20 +130,35 @@ abbrev numberName : ℕ → List ℕ
 numberName v = padded (ascii "TX" ++ decimal v)
 
 good : ℕ → Bool
-good v = eqb (length (numberName v)) 16 && (leb v 0 || eqb (readTerm (numberName v) .refusal) 0)
+good v =
+    leb v 0
+    || eqb (length (numberName v)) 16 && (eqb (readTerm (numberName v) .refusal) 0 && same (readTerm (numberName v) .term .name) (numberName v))
 
 all-good : allTo 256 good ≡ true
 unfolding allTo good readTerm wellFormed nameOf byKnown unsigned digitsFrom
 all-good = refl
 
-number-good : (v : ℕ) → (leb 1 v && leb v 255) ≡ true → (length (numberName v) ≡ 16) × (readTerm (numberName v) .refusal ≡ 0)
+-- a name that is stored: of sixteen bytes, which are read, and stored as themselves
+pub record Settled (l : List ℕ) : Type 0 where
+  pub sixteen : length l ≡ 16
+  pub read : readTerm l .refusal ≡ 0
+  pub kept : readTerm l .term .name ≡ l
+
+settled : (l : List ℕ) → (eqb (length l) 16 && (eqb (readTerm l .refusal) 0 && same (readTerm l .term .name) l)) ≡ true → Settled l
+settled l e =
+    let later = right-of (eqb (length l) 16) (eqb (readTerm l .refusal) 0 && same (readTerm l .term .name) l) e in
+    record {
+      sixteen = eqb-true _ 16 (left-of (eqb (length l) 16) (eqb (readTerm l .refusal) 0 && same (readTerm l .term .name) l) e);
+      read = eqb-true _ 0 (left-of (eqb (readTerm l .refusal) 0) (same (readTerm l .term .name) l) later);
+      kept = same-equal (readTerm l .term .name) l (right-of (eqb (readTerm l .refusal) 0) (same (readTerm l .term .name) l) later);
+    }
+
+number-settled : (v : ℕ) → (leb 1 v && leb v 255) ≡ true → Settled (numberName v)
 unfolding good
-number-good v e =
-    let lo = leb-true 1 v (left-of (leb 1 v) (leb v 255) e) in
-    let hi = leb-true v 255 (right-of (leb 1 v) (leb v 255) e) in
-    let g = all-at 256 v good all-good (omega arith) in
-    let read : (leb v 0 || eqb (readTerm (numberName v) .refusal) 0) ≡ true = right-of (eqb (length (numberName v)) 16) (leb v 0 || eqb (readTerm (numberName v) .refusal) 0) g in
-    (eqb-true _ 16 (left-of (eqb (length (numberName v)) 16) (leb v 0 || eqb (readTerm (numberName v) .refusal) 0) g), eqb-true _ 0 (rw (lt-leb v 0 lo) at read))
+number-settled v e =
+    let low = leb-true 1 v (left-of (leb 1 v) (leb v 255) e) in
+    let high = leb-true v 255 (right-of (leb 1 v) (leb v 255) e) in
+    settled (numberName v) (rw (lt-leb v 0 low) at (all-at 256 v good all-good (omega arith)))
 
 -- ---- the name that is stored is the padded one, or TX and a number
 
@@ -179,11 +201,22 @@ module _ (s : List ℕ) (ok : readTerm s .refusal ≡ 0) where
   unfolding readTerm
   is-known = let facts = slot-facts s ok in rw (eq-eqb (length s) 16 (facts .0), facts .1)
 
-  pub read-stored : (length (readTerm s .term .name) ≡ 16) × (readTerm (readTerm s .term .name) .refusal ≡ 0)
-  read-stored =
+  -- the padded name, where that is what is stored
+  padded-settled : readTerm s .term .name ≡ padded (map capital (nameOf s)) → Settled (padded (map capital (nameOf s)))
+  padded-settled e =
       let facts = slot-facts s ok in
+      let again : readTerm (padded (map capital (nameOf s))) ≡ readTerm s = read-again s (facts .0) (facts .1) in
+      record {
+        sixteen = padded-length s (facts .0);
+        read = ap (λ (r : Reading). r .refusal) again ∙ ok;
+        kept = ap (λ (r : Reading). r .term .name) again ∙ e;
+      }
+
+  pub read-stored : Settled (readTerm s .term .name)
+  read-stored =
       let n = map capital (nameOf s) in
-      rw is-known
-      (stored-of (λ (l : List ℕ). (length l ≡ 16) × (readTerm l .refusal ≡ 0)) n
-      (padded-length s (facts .0), ap (λ (r : Reading). r .refusal) (read-again s (facts .0) (facts .1)) ∙ ok) number-good (find fixedNames n)
-      (ap (λ (r : Reading). r .refusal) (sym is-known) ∙ ok))
+      let k = find fixedNames n in
+      let is : (readTerm s .term .name ≡ byKnown n k .term .name → Settled (byKnown n k .term .name)) =
+      stored-of (λ (l : List ℕ). readTerm s .term .name ≡ l → Settled l) n padded-settled (λ v q e. number-settled v q) k
+      (ap (λ (r : Reading). r .refusal) (sym is-known) ∙ ok) in
+      subst Settled (ap (λ (r : Reading). r .term .name) (sym is-known)) (is (ap (λ (r : Reading). r .term .name) is-known))

@@ -1,126 +1,144 @@
--- What a reader may count on: a breakdown sums to the correction, a correction uses the coefficients that were set, a name that is added
--- twice is added once. Assumes nothing.
+-- What a reader may count on: the models that the calls make pass every question, a breakdown sums to the correction, a correction uses the
+-- coefficients that were set, and a term that is added twice, however it is spelled, is added once. Assumes nothing.
 use Prim.Native.Nat.{ℕ, _+_, _*_, _<_}
 use native.Mathlib.Numerals.{add-one}
 use native.Mathlib.Omega.{arith}
 use mathlib.Core.Path.{_≡_, refl, sym, _∙_, ap, ap₂, subst}
 use mathlib.Core.Bool.{Bool, true, false, cond, _||_}
 use mathlib.Core.List.{List, [], _∷_}
-use borrow.Author.Tests.{eqb-true, eqb-false, eq-eqb, ltb-true, le-leb}
-use lib.Dec.{eqb, leb, ltb}
+use borrow.Author.Tests.{eqb-true, eqb-false, eq-eqb, ltb-true}
+use lib.Dec.{eqb, ltb}
 use lib.ListN.{length, take, set}
-use lib.Seq.{take-suc-set}
+use lib.Seq.{take-suc-set, length-take-le, length-sets, sets}
 use lib.Ieee.{Float}
 use Rattle.float.specs.Float.{#0, isFinite}
 use Rattle.sequence.specs.Sequence.{every, at, filled, sumTo}
-use Rattle.observation.specs.Observation.{pairOf, signOf, sideOf}
-use Rattle.observation.specs.declared.Pair.{Pair}
+use Rattle.observation.specs.Observation.{pairOf}
 use Rattle.sequence.proofs.Parts.{part-sets-same, part-sets-below}
 use Rattle.terms.specs.Names.{same, readTerm}
 use Rattle.terms.specs.Questions.{firstNo}
 use Rattle.model.specs.Slots.{slot, noNumbers, firstOf, namesRefusal, hasName}
-use Rattle.model.specs.Model.{asked, modelRefusal, changed, withTerm, addTerm, setCoefficients}
-use Rattle.model.specs.Correction.{pointRefusal, contribution, corrected, correction, noBreakdown, brokenDown, breakdown}
+use Rattle.model.specs.Model.{newModel, asked, refusalOf, termNames, termCoefficients, modelRefusal, changed, withTerm, addTerm, setCoefficients}
+use Rattle.model.specs.Correction.{pointRefusal, corrected, correctionAt, correction, noBreakdown, brokenDown, breakdownAt}
 use Rattle.model.specs.declared.PointingModel.{PointingModel}
 use Rattle.model.specs.declared.Breakdown.{Breakdown}
+use Rattle.model.specs.declared.Changed.{Changed}
 use Rattle.model.specs.declared.Correction.the-variants.{Given}
-use Rattle.model.proofs.Laws.{number-kept, first-step, first-same, some-last, same-itself}
-use Rattle.model.proofs.Lists.{at-filled, front-filled, sum-same, every-snoc, zero-finite}
+use Rattle.model.proofs.Laws.{Passed, passed, passes, first-step, first-same, some-last, some-stop, same-itself}
+use Rattle.model.proofs.Lists.{at-filled, front-filled, sum-same, every-snoc, zero-finite, part-take}
 use Rattle.model.proofs.Stored.{read-stored}
+
+-- ---- a model that passes every question
+
+abbrev pub Passes : PointingModel → Type 0
+Passes m = modelRefusal m true true true ≡ 0
+
+pub new-passes : Passes newModel
+unfolding refusalOf firstOf
+new-passes = refl
+
+-- what a model has that passes with something else that a call takes
+abbrev PassedWith : PointingModel → Bool → Bool → Type 0
+PassedWith m counted finite = Passed (m .count) (termNames m) (termCoefficients m) counted finite true
+
+passed-with : (m : PointingModel) (counted finite : Bool) → modelRefusal m counted finite true ≡ 0 → PassedWith m counted finite
+passed-with m counted finite = passed (m .count) (termNames m) (termCoefficients m) counted finite true
+
+passes-with : (m : PointingModel) (counted finite : Bool) → PassedWith m counted finite → modelRefusal m counted finite true ≡ 0
+passes-with m counted finite = passes (m .count) (termNames m) (termCoefficients m) counted finite true
+
+-- the same with something else that passes too
+also : (m : PointingModel) (a b c d : Bool) → PassedWith m a b → c ≡ true → d ≡ true → PassedWith m c d
+also m a b c d p e f =
+    record { few = p .few; sized = p .sized; rest-counted = e; numbers = p .numbers; rest-finite = f; rest-known = refl; named = p .named }
 
 -- ---- the sum of the breakdown, in order, is the correction
 
--- what is given was refused by neither of two questions
-both-yes : (x y : ℕ) (b : Breakdown) → firstNo noBreakdown b (asked x ∷ asked y ∷ []) .refusal ≡ 0 → (x ≡ 0) × (y ≡ 0)
-both-yes x y b e = by (eqb x 0) (eqb y 0) refl refl e
+given-yes : (x : ℕ) (b : Breakdown) → firstNo noBreakdown b (asked x ∷ []) .refusal ≡ 0 → x ≡ 0
+given-yes x b e = by (eqb x 0) refl e
   where
-    by : (s t : Bool) → eqb x 0 ≡ s → eqb y 0 ≡ t → cond s (cond t b (noBreakdown y)) (noBreakdown x) .refusal ≡ 0 → (x ≡ 0) × (y ≡ 0)
-    by true true p q e = (eqb-true x 0 p, eqb-true y 0 q)
-    by true false p q e = (eqb-true x 0 p, e)
-    by false t p q e = absurd (eqb-false x 0 p e)
+    by : (t : Bool) → eqb x 0 ≡ t → cond t b (noBreakdown x) .refusal ≡ 0 → x ≡ 0
+    by true p e = eqb-true x 0 p
+    by false p e = e
 
-module _ (m : PointingModel) (sheet : List Float) (sinLat cosLat : Float) (pier : ℕ) where
-  pub breakdown-sums : breakdown m sheet sinLat cosLat pier .refusal ≡ 0
-      → correction m sheet sinLat cosLat pier
-      ≡ Given (pairOf (sumTo (m .count) (at (breakdown m sheet sinLat cosLat pier .dh))) (sumTo (m .count) (at (breakdown m sheet sinLat cosLat pier .dd))))
-  unfolding breakdown correction corrected brokenDown
+module _ (n : ℕ) (names : List ℕ) (coefficients sheet : List Float) (sinLat cosLat : Float) (pier : ℕ) where
+  abbrev parts : Breakdown
+  parts = breakdownAt n names coefficients sheet sinLat cosLat pier
+
+  pub breakdown-sums : parts .refusal ≡ 0
+      → correctionAt n names coefficients sheet sinLat cosLat pier ≡ Given (pairOf (sumTo n (at (parts .dh))) (sumTo n (at (parts .dd))))
+  unfolding breakdownAt correctionAt corrected brokenDown
   breakdown-sums e =
-      let passed = both-yes (modelRefusal m) (pointRefusal sheet sinLat cosLat pier) _ e in
-      rw (eq-eqb (modelRefusal m) 0 (passed .0), eq-eqb (pointRefusal sheet sinLat cosLat pier) 0 (passed .1))
-      (ap₂ (λ (x y : Float). Given (pairOf x y)) (sum-same (m .count) _ _ (λ i h. sym (at-filled _ (m .count) i noNumbers h)))
-      (sum-same (m .count) _ _ (λ i h. sym (at-filled _ (m .count) i noNumbers h))))
+      rw (eq-eqb _ 0 (given-yes (pointRefusal n names coefficients sheet sinLat cosLat pier) _ e))
+      (ap₂ (λ (x y : Float). Given (pairOf x y)) (sum-same n _ _ (λ i h. sym (at-filled _ n i noNumbers h)))
+      (sum-same n _ _ (λ i h. sym (at-filled _ n i noNumbers h))))
 
 -- ---- a correction after an accepted setting uses the new coefficients
 
--- what a model that passes its questions has, and that this is enough
-model-facts : (m : PointingModel) → modelRefusal m ≡ 0
-    → (leb (m .count) 32 ≡ true) × (every isFinite (take (m .count) (m .coefficients)) ≡ true) × (namesRefusal (m .names) (m .count) ≡ 0)
-unfolding modelRefusal
-model-facts m e = by (leb (m .count) 32) (every isFinite (take (m .count) (m .coefficients))) (namesRefusal (m .names) (m .count)) e
-  where
-    by : (s t : Bool) (n : ℕ) → cond s (cond t (cond (eqb n 0) 0 n) 4) 1 ≡ 0 → (s ≡ true) × (t ≡ true) × (n ≡ 0)
-    by true true n e = (refl, refl, number-kept n ∙ e)
-    by true false n e = absurd (omega arith)
-    by false t n e = absurd (omega arith)
+module _ (m : PointingModel) (cs : List Float) (accepted : setCoefficients m cs .refusal ≡ 0) where
+  new-model : PointingModel
+  new-model = record { names = m .names; coefficients = filled (m .count) (at cs) (m .coefficients); count = m .count }
 
-model-passes : (m : PointingModel) → leb (m .count) 32 ≡ true → every isFinite (take (m .count) (m .coefficients)) ≡ true
-    → namesRefusal (m .names) (m .count) ≡ 0 → modelRefusal m ≡ 0
-unfolding modelRefusal
-model-passes m e f g = rw (e, f, g)
+  abbrev set-no : ℕ
+  set-no = modelRefusal m (eqb (length cs) (m .count)) (every isFinite cs) true
 
-module _ (m : PointingModel) (cs : List Float) where
-  set-facts : setCoefficients m cs .refusal ≡ 0 → (modelRefusal m ≡ 0) × (length cs ≡ m .count) × (every isFinite cs ≡ true)
+  set-yes : set-no ≡ 0
   unfolding setCoefficients
-  set-facts e = by (eqb (modelRefusal m) 0) (eqb (length cs) (m .count)) (every isFinite cs) _ refl refl e
+  set-yes = by (eqb set-no 0) _ refl accepted
     where
-      by : (r s t : Bool) (new : PointingModel) → eqb (modelRefusal m) 0 ≡ r → eqb (length cs) (m .count) ≡ s
-          → cond r (cond s (cond t (changed 0 new) (changed 4 m)) (changed 2 m)) (changed (modelRefusal m) m) .refusal ≡ 0
-          → (modelRefusal m ≡ 0) × (length cs ≡ m .count) × (t ≡ true)
-      by true true true new p q e = (eqb-true _ 0 p, eqb-true _ _ q, refl)
-      by true true false new p q e = absurd (omega arith)
-      by true false t new p q e = absurd (omega arith)
-      by false s t new p q e = absurd (eqb-false _ 0 p e)
+      by : (t : Bool) (new : PointingModel) → eqb set-no 0 ≡ t → cond t (changed 0 new) (changed set-no m) .refusal ≡ 0 → set-no ≡ 0
+      by true new p e = eqb-true set-no 0 p
+      by false new p e = e
 
-  module _ (accepted : setCoefficients m cs .refusal ≡ 0) where
-    new-model : PointingModel
-    new-model = record { names = m .names; coefficients = filled (m .count) (at cs) (m .coefficients); count = m .count }
+  set-facts : PassedWith m (eqb (length cs) (m .count)) (every isFinite cs)
+  set-facts = passed-with m _ _ set-yes
 
-    set-is : setCoefficients m cs .model ≡ new-model
-    unfolding setCoefficients new-model
-    set-is =
-        let facts = set-facts accepted in
-        rw (eq-eqb (modelRefusal m) 0 (facts .0), eq-eqb (length cs) (m .count) (facts .1), facts .2)
+  set-is : setCoefficients m cs .model ≡ new-model
+  unfolding setCoefficients new-model
+  set-is = rw (eq-eqb set-no 0 set-yes)
 
-    set-passes : modelRefusal new-model ≡ 0
-    unfolding new-model
-    set-passes =
-        let facts = set-facts accepted in
-        let before = model-facts m (facts .0) in
-        let front : take (m .count) (filled (m .count) (at cs) (m .coefficients)) ≡ cs =
-        subst (λ (n : ℕ). take n (filled n (at cs) (m .coefficients)) ≡ cs) (facts .1) (front-filled cs (m .coefficients)) in
-        model-passes new-model (before .0) (ap (every isFinite) front ∙ facts .2) (before .2)
+  front : take (m .count) (filled (m .count) (at cs) (m .coefficients)) ≡ cs
+  front =
+      let one-each = eqb-true (length cs) (m .count) (set-facts .rest-counted) in
+      subst (λ (n : ℕ). take n (filled n (at cs) (m .coefficients)) ≡ cs) one-each (front-filled cs (m .coefficients))
 
-    set-part : (sheet : List Float) (sinLat cosLat sign : Float) (i : ℕ) → i < m .count
-        → contribution (m .names) (filled (m .count) (at cs) (m .coefficients)) sheet sinLat cosLat sign i ≡ contribution (m .names) cs sheet sinLat cosLat sign i
-    unfolding contribution
-    set-part sheet sinLat cosLat sign i h = rw (at-filled (at cs) (m .count) i (m .coefficients) h)
+  pub set-passes : Passes (setCoefficients m cs .model)
+  unfolding new-model
+  set-passes =
+      let p = set-facts in
+      rw set-is
+      (passes-with new-model true true
+      (record {
+        few = p .few;
+        sized = p .sized;
+        rest-counted = refl;
+        numbers = ap (every isFinite) front ∙ p .rest-finite;
+        rest-finite = refl;
+        rest-known = refl;
+        named = p .named;
+      }))
 
-    pub applied-after-set : (sheet : List Float) (sinLat cosLat : Float) (pier : ℕ) → pointRefusal sheet sinLat cosLat pier ≡ 0
-        → correction (setCoefficients m cs .model) sheet sinLat cosLat pier ≡ Given (corrected (m .names) cs (m .count) sheet sinLat cosLat (signOf (sideOf pier)))
-    unfolding correction corrected new-model
-    applied-after-set sheet sinLat cosLat pier e =
-        let part = set-part sheet sinLat cosLat (signOf (sideOf pier)) in
-        rw (set-is, eq-eqb (modelRefusal new-model) 0 set-passes, eq-eqb (pointRefusal sheet sinLat cosLat pier) 0 e)
-        (ap₂ (λ (x y : Float). Given (pairOf x y)) (sum-same (m .count) _ _ (λ i h. ap (λ (p : Pair). p .dh) (part i h)))
-        (sum-same (m .count) _ _ (λ i h. ap (λ (p : Pair). p .dd) (part i h))))
+  pub applied-after-set : (sheet : List Float) (sinLat cosLat : Float) (pier : ℕ)
+      → correction (setCoefficients m cs .model) sheet sinLat cosLat pier ≡ correctionAt (m .count) (termNames m) cs sheet sinLat cosLat pier
+  unfolding new-model
+  applied-after-set sheet sinLat cosLat pier =
+      ap (λ (x : PointingModel). correction x sheet sinLat cosLat pier) set-is
+      ∙ ap (λ (l : List Float). correctionAt (m .count) (termNames m) l sheet sinLat cosLat pier) front
 
--- ---- a name that is added twice is added once
+-- ---- a term that is added twice is added once
 
--- a model that passes and has the name is handed back
-again : (m : PointingModel) (name : List ℕ) → modelRefusal m ≡ 0 → readTerm name .refusal ≡ 0
+-- a model that passes and has the term is handed back
+again : (m : PointingModel) (name : List ℕ) → modelRefusal m (eqb (length name) 16) true true ≡ 0 → readTerm name .refusal ≡ 0
     → hasName (m .names) (m .count) (readTerm name .term .name) ≡ true → addTerm m name ≡ changed 0 m
 unfolding addTerm
-again m name p r h = rw (eq-eqb (modelRefusal m) 0 p, eq-eqb (readTerm name .refusal) 0 r, h)
+again m name p r h = rw (eq-eqb _ 0 p, eq-eqb (readTerm name .refusal) 0 r, h)
+
+-- so a name of a term that is there changes nothing, however either is spelled, and also where the model is full
+pub there-already : (m : PointingModel) (name : List ℕ) (i : ℕ) → Passes m → length name ≡ 16 → readTerm name .refusal ≡ 0 → i < m .count
+    → readTerm (slot (m .names) i) .term .name ≡ readTerm name .term .name → addTerm m name ≡ changed 0 m
+there-already m name i p l r h e =
+    again m name (passes-with m _ true (also m true true _ true (passed-with m true true p) (eq-eqb (length name) 16 l) refl)) r
+    (sym (some-stop _ i (m .count) h (ap (λ (l : List ℕ). same l (readTerm name .term .name)) e ∙ same-itself (readTerm name .term .name))))
 
 -- the lengths are those of the arrays
 module _ (m : PointingModel) (name : List ℕ) (bytes : length (m .names) ≡ 512) (numbers : length (m .coefficients) ≡ 32)
@@ -131,58 +149,99 @@ module _ (m : PointingModel) (name : List ℕ) (bytes : length (m .names) ≡ 51
   abbrev there : Bool
   there = hasName (m .names) (m .count) stored
 
-  add-facts : (modelRefusal m ≡ 0) × (readTerm name .refusal ≡ 0) × ((there || ltb (m .count) 32) ≡ true)
+  abbrev add-no : ℕ
+  add-no = modelRefusal m (eqb (length name) 16) true true
+
+  add-facts : (add-no ≡ 0) × (readTerm name .refusal ≡ 0) × ((there || ltb (m .count) 32) ≡ true)
   unfolding addTerm
-  add-facts = by (eqb (modelRefusal m) 0) (eqb (readTerm name .refusal) 0) (there || ltb (m .count) 32) _ refl refl accepted
+  add-facts = by (eqb add-no 0) (eqb (readTerm name .refusal) 0) (there || ltb (m .count) 32) _ refl refl accepted
     where
-      by : (r s t : Bool) (new : PointingModel) → eqb (modelRefusal m) 0 ≡ r → eqb (readTerm name .refusal) 0 ≡ s
-          → cond r (cond s (cond t (changed 0 new) (changed 14 m)) (changed (readTerm name .refusal) m)) (changed (modelRefusal m) m) .refusal ≡ 0
-          → (modelRefusal m ≡ 0) × (readTerm name .refusal ≡ 0) × (t ≡ true)
+      by : (r s t : Bool) (new : PointingModel) → eqb add-no 0 ≡ r → eqb (readTerm name .refusal) 0 ≡ s
+          → cond r (cond s (cond t (changed 0 new) (changed 14 m)) (changed (readTerm name .refusal) m)) (changed add-no m) .refusal ≡ 0
+          → (add-no ≡ 0) × (readTerm name .refusal ≡ 0) × (t ≡ true)
       by true true true new p q e = (eqb-true _ 0 p, eqb-true _ 0 q, refl)
       by true true false new p q e = absurd (omega arith)
       by true false t new p q e = absurd (eqb-false _ 0 q e)
       by false s t new p q e = absurd (eqb-false _ 0 p e)
 
+  before : PassedWith m (eqb (length name) 16) true
+  before = passed-with m _ true (add-facts .0)
+
   add-is : addTerm m name ≡ changed 0 (cond there m (withTerm m stored))
   unfolding addTerm
-  add-is = rw (eq-eqb (modelRefusal m) 0 (add-facts .0), eq-eqb (readTerm name .refusal) 0 (add-facts .1), add-facts .2)
-
-  sixteen : length stored ≡ 16
-  sixteen = read-stored name (add-facts .1) .0
+  add-is = rw (eq-eqb add-no 0 (add-facts .0), eq-eqb (readTerm name .refusal) 0 (add-facts .1), add-facts .2)
 
   module _ (new : there ≡ false) where
     room : m .count < 32
     room = ltb-true (m .count) 32 (rw new at (add-facts .2))
 
-    slot-last : slot (withTerm m stored .names) (m .count) ≡ stored
-    slot-last = part-sets-same (m .names) (16 * m .count) 16 stored sixteen (omega (arith, room))
+    abbrev longer : PointingModel
+    longer = withTerm m stored
 
-    slot-below : (i : ℕ) → i < m .count → slot (withTerm m stored .names) i ≡ slot (m .names) i
-    slot-below i h = part-sets-below (m .names) (16 * i) 16 (16 * m .count) stored (omega arith)
+    slot-last : slot (longer .names) (m .count) ≡ stored
+    slot-last = part-sets-same (m .names) (16 * m .count) 16 stored (read-stored name (add-facts .1) .sixteen) (omega (arith, room))
 
-    longer-passes : modelRefusal (withTerm m stored) ≡ 0
-    longer-passes =
-        let before = model-facts m (add-facts .0) in
-        let finite : every isFinite (take (m .count + 1) (set (m .coefficients) (m .count) #0)) ≡ true =
+    -- the slots of the longer model among its terms' names, and those of the model
+    slot-longer : (i : ℕ) → i < m .count + 1 → slot (termNames longer) i ≡ slot (longer .names) i
+    slot-longer i h =
+        part-take (longer .names) (16 * i) 16 (16 * (m .count + 1)) (omega arith) (omega (arith, room, length-sets (m .names) (16 * m .count) stored))
+
+    slot-below : (i : ℕ) → i < m .count → slot (termNames longer) i ≡ slot (termNames m) i
+    slot-below i h =
+        slot-longer i (omega arith) ∙ part-sets-below (m .names) (16 * i) 16 (16 * m .count) stored (omega arith)
+        ∙ sym (part-take (m .names) (16 * i) 16 (16 * m .count) (omega arith) (omega (arith, room)))
+
+    longer-finite : every isFinite (termCoefficients longer) ≡ true
+    longer-finite =
         rw (add-one (m .count), take-suc-set (m .coefficients) (m .count) #0 (omega (arith, room)))
-        (every-snoc isFinite (take (m .count) (m .coefficients)) #0 (before .1) zero-finite) in
-        let passed : firstOf (m .count) (λ i. readTerm (slot (withTerm m stored .names) i) .refusal) ≡ 0 =
-        first-same (m .count) _ _ (λ i h. ap (λ (l : List ℕ). readTerm l .refusal) (slot-below i h)) ∙ before .2 in
-        model-passes (withTerm m stored) (le-leb (m .count + 1) 32 (omega (arith, room))) finite
-        (first-step _ (m .count) _ passed (sym (ap (λ (l : List ℕ). readTerm l .refusal) slot-last)) (read-stored name (add-facts .1) .1))
+        (every-snoc isFinite (termCoefficients m) #0 (before .numbers) zero-finite)
 
-    longer-has : hasName (withTerm m stored .names) (m .count + 1) stored ≡ true
-    longer-has = rw (add-one (m .count)) (some-last _ (m .count) (ap (λ (l : List ℕ). same l stored) slot-last ∙ same-itself stored))
+    longer-named : namesRefusal (termNames longer) (m .count + 1) ≡ 0
+    longer-named =
+        let front : firstOf (m .count) (λ i. readTerm (slot (termNames longer) i) .refusal) ≡ 0 =
+        first-same (m .count) _ _ (λ i h. ap (λ (l : List ℕ). readTerm l .refusal) (slot-below i h)) ∙ before .named in
+        let last : slot (termNames longer) (m .count) ≡ stored = slot-longer (m .count) (omega arith) ∙ slot-last in
+        first-step _ (m .count) _ front (sym (ap (λ (l : List ℕ). readTerm l .refusal) last)) (read-stored name (add-facts .1) .read)
 
-  passes-and-has : (t : Bool) → there ≡ t
-      → (modelRefusal (cond t m (withTerm m stored)) ≡ 0) × (hasName (cond t m (withTerm m stored) .names) (cond t m (withTerm m stored) .count) stored ≡ true)
-  passes-and-has true e = (add-facts .0, e)
+    longer-passes : PassedWith longer true true
+    longer-passes =
+        record {
+          few = omega (arith, room);
+          sized = length-take-le _ (longer .names) (omega (arith, room, length-sets (m .names) (16 * m .count) stored));
+          rest-counted = refl;
+          numbers = longer-finite;
+          rest-finite = refl;
+          rest-known = refl;
+          named = longer-named;
+        }
+
+    longer-has : hasName (longer .names) (m .count + 1) stored ≡ true
+    longer-has =
+        rw (add-one (m .count))
+        (some-last _ (m .count)
+        (ap (λ (l : List ℕ). same (readTerm l .term .name) stored) slot-last ∙ ap (λ (l : List ℕ). same l stored) (read-stored name (add-facts .1) .kept)
+        ∙ same-itself stored))
+
+  abbrev Has : PointingModel → Type 0
+  Has x = PassedWith x true true × (hasName (x .names) (x .count) stored ≡ true)
+
+  passes-and-has : (t : Bool) → there ≡ t → Has (cond t m (withTerm m stored))
+  passes-and-has true e = (also m _ true true true before refl refl, e)
   passes-and-has false e = (longer-passes e, longer-has e)
 
-  pub added-passes : modelRefusal (addTerm m name .model) ≡ 0
-  added-passes = rw add-is (passes-and-has there refl .0)
+  known : Has (addTerm m name .model)
+  known = rw add-is (passes-and-has there refl)
+
+  pub added-passes : Passes (addTerm m name .model)
+  added-passes = passes-with _ true true (known .0)
+
+  -- nor does any spelling of the same term
+  pub added-again : (other : List ℕ) → length other ≡ 16 → readTerm other ≡ readTerm name
+      → addTerm (addTerm m name .model) other ≡ changed 0 (addTerm m name .model)
+  added-again other l e =
+      again (addTerm m name .model) other
+      (passes-with _ _ true (also (addTerm m name .model) true true _ true (known .0) (eq-eqb (length other) 16 l) refl))
+      (ap (λ r. r .refusal) e ∙ add-facts .1) (rw e (known .1))
 
   pub added-twice : addTerm (addTerm m name .model) name ≡ changed 0 (addTerm m name .model)
-  added-twice =
-      let known = passes-and-has there refl in
-      rw add-is (again (cond there m (withTerm m stored)) name (known .0) (add-facts .1) (known .1))
+  added-twice = added-again name (eqb-true _ 16 (before .rest-counted)) refl

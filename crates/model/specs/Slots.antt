@@ -35,6 +35,6 @@ some (suc n) p = some n p || p n
 abbrev pub namesRefusal : List ℕ → ℕ → ℕ
 namesRefusal names n = firstOf n (λ i. readTerm (slot names i) .refusal)
 
--- whether one of the first n slots holds these bytes
+-- whether one of the first n slots is read as the term of a stored name, however it is spelled there
 abbrev pub hasName : List ℕ → ℕ → List ℕ → Bool
-hasName names n stored = some n (λ i. same (slot names i) stored)
+hasName names n stored = some n (λ i. same (readTerm (slot names i) .term .name) stored)

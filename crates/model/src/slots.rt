@@ -48,14 +48,17 @@ fn same_bytes(a: &[u8], b: &[u8]) -> bool
     true
 }
 
-// Whether one of the first count slots holds a stored name.
+// Whether one of the first count slots is read as the term of a stored name, however it is spelled there.
 pub fn has_name(names: &[u8], count: usize, stored: &[u8]) -> bool
     requires { ⌜ (16 * count ≤ length (now names)) × (length (now stored) ≡ 16) ⌝ }
     ensures { λ r. ⌜ r ≡ hasName (now (names .entry)) count (now (stored .entry)) ⌝ }
 {
     for i in 0..count {
         let a = 16 * i;
-        if same_bytes(&names[a..a + 16], stored) {
+        let reading = terms::read_term(&names[a..a + 16]);
+        let term = reading.term;
+        let name = term.name;
+        if same_bytes(&name, stored) {
             return true;
         }
     }
