@@ -46,6 +46,10 @@ impl PointingModel {
         self.terms.iter().map(|t| t.name()).collect()
     }
 
+    pub fn terms(&self) -> &[Box<dyn Term>] {
+        &self.terms
+    }
+
     pub fn coefficients(&self) -> &[f64] {
         &self.coefficients
     }

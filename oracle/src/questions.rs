@@ -316,59 +316,54 @@ impl Default for Model {
 }
 
 impl Model {
-    /// The questions about the model itself: 1 its count, 4 its coefficients, 7 to 10 its names.
-    fn read(&self) -> Result<PointingModel> {
+    /// Question 1; the names and coefficients of its terms.
+    fn terms(&self) -> Result<LentModel<'_>> {
         ask(self.count <= MAX_TERMS, 1)?;
-        let coefficients = &self.coefficients[..self.count];
-        ask(finite(coefficients), 4)?;
-        let terms = slot_terms(self.names[..self.count].as_flattened())?;
-        Ok(PointingModel::of(terms, coefficients))
+        Ok(LentModel {
+            names: self.names[..self.count].as_flattened(),
+            coefficients: &self.coefficients[..self.count],
+        })
     }
 }
 
-/// The model with a term: its own questions, then 2, 7 to 10 and 14. Names are compared as stored:
-/// the bytes of the model's slots with the stored form of the new name.
+/// The model with a term: 1, 2 of the name, 4 of the coefficients, 7 to 10 of the model's names and
+/// then of the new one, 14. The source's own `add_term` says whether the term is there already.
 pub fn add_term(model: &Model, slot: &[u8]) -> Result<Model> {
-    model.read()?;
-    let name = stored_name(read_term(slot)?.as_ref());
+    let terms = model.terms()?;
+    ask(slot.len() == NAME, 2)?;
+    ask(finite(terms.coefficients), 4)?;
+    let mut source = terms.source()?;
+    source.add_term(slot_name(slot)?)?;
     let mut out = model.clone();
-    if model.names[..model.count].contains(&name) {
-        return Ok(out);
+    if source.term_count() > model.count {
+        out.names[model.count] = stored_name(source.terms()[model.count].as_ref());
+        out.coefficients[model.count] = source.coefficients()[model.count];
+        out.count = source.term_count();
     }
-    ask(model.count < MAX_TERMS, 14)?;
-    out.names[model.count] = name;
-    out.coefficients[model.count] = 0.0;
-    out.count += 1;
     Ok(out)
 }
 
-/// The model with new coefficients: its own questions, then 2 and 4.
+/// The model with new coefficients: 1, 2 of the new ones, which the source's `set_coefficients` asks
+/// too, 4 of the model's and of them, 7 to 10.
 pub fn set_coefficients(model: &Model, coeffs: &[f64]) -> Result<Model> {
-    let mut read = model.read()?;
-    read.set_coefficients(coeffs)?;
-    ask(finite(coeffs), 4)?;
+    let terms = model.terms()?;
+    ask(coeffs.len() == model.count, 2)?;
+    ask(finite(terms.coefficients) && finite(coeffs), 4)?;
+    let mut source = terms.source()?;
+    source.set_coefficients(coeffs)?;
     let mut out = model.clone();
-    out.coefficients[..model.count].copy_from_slice(coeffs);
+    out.coefficients[..model.count].copy_from_slice(source.coefficients());
     Ok(out)
 }
 
-/// The correction at one point: the model's questions, then 2, 4 and 5.
+/// The correction at one point.
 pub fn apply_equatorial(model: &Model, point: &Point) -> Result<(f64, f64)> {
-    let read = model.read()?;
-    ask(point.sheet.len() == SHEET, 2)?;
-    point.ask_values()?;
-    let (sheet, lat, pier) = point.lent();
-    Ok(read.apply_equatorial(&sheet, lat, pier))
+    apply_equatorial_lent(&model.terms()?, point)
 }
 
-/// Two contributions per term at one point: the model's questions, then 2, 4 and 5.
+/// Two contributions per term at one point.
 pub fn predict_breakdown(model: &Model, point: &Point) -> Result<Vec<(f64, f64)>> {
-    let read = model.read()?;
-    ask(point.sheet.len() == SHEET, 2)?;
-    point.ask_values()?;
-    let (sheet, lat, pier) = point.lent();
-    let breakdown = read.predict_breakdown(&sheet, lat, pier);
-    Ok(breakdown.into_iter().map(|(_, h, d)| (h, d)).collect())
+    predict_breakdown_lent(&model.terms()?, point)
 }
 
 /// A model as a caller lends it: a slot for each name, and a coefficient.
@@ -389,10 +384,13 @@ impl LentModel<'_> {
         )?;
         ask(finite(self.coefficients), 4)?;
         point.ask_values()?;
-        Ok(PointingModel::of(
-            slot_terms(self.names)?,
-            self.coefficients,
-        ))
+        self.source()
+    }
+
+    /// Questions 7 to 10 of the names; the source's model.
+    fn source(&self) -> Result<PointingModel> {
+        let terms = slot_terms(self.names)?;
+        Ok(PointingModel::of(terms, self.coefficients))
     }
 }
 

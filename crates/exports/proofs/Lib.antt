@@ -1,4 +1,3 @@
 pub mod Answered
-pub mod Asked
 pub mod Few
 pub mod Mapped

@@ -2,17 +2,19 @@
 // its caller.
 
 ghost use mathlib.Core.Path.{_≡_};
+ghost use lib.ListN.{length};
 ghost use lib.Ieee.{binary64};
 ghost use Rattle.sqrt.specs.Sqrt as Root;
 ghost use Rattle.terms.specs.Names.{readTerm};
 ghost use Rattle.terms.specs.Jacobian.{jacobianOf};
+ghost use Rattle.model.specs.Correction.{correctionAt, breakdownAt};
 ghost use Rattle.validate.specs.Call.{lent, buffers};
 ghost use Rattle.single_step.specs.SingleStep.{fitOutcome};
 ghost use Rattle.iterated.specs.Iterated.{iteratedOutcome};
 ghost use Rattle.iterated.specs.Demand3.{Demand3};
 ghost use Rattle.exports.specs.Scratch.{scratchLength};
 ghost use Rattle.exports.specs.Term.{termAnswer};
-ghost use Rattle.exports.specs.Point.{pairAnswer, correctionAt, breakdownAt};
+ghost use Rattle.exports.specs.Point.{pairAnswer, correctionAnswer};
 ghost use Rattle.exports.specs.Fits.{answerOf};
 
 mod fits;
@@ -22,17 +24,13 @@ mod term;
 use crate::fits::FitAnswer;
 use crate::fits::answer;
 use crate::point::PairAnswer;
-use crate::point::given_pair;
+use crate::point::correction_answer;
 use crate::point::pair_answer;
-use crate::point::refusal_at;
-use crate::point::refused_pair;
 use crate::term::TermAnswer;
 use crate::term::term_answer;
 use model::Breakdown;
-use model::point::contributions;
-use model::point::corrected;
-use model::point::no_breakdown;
-use observation::PierSide;
+use model::point::breakdown_at;
+use model::point::correction_at;
 use solver::IterOptions;
 
 // The square root, correctly rounded.
@@ -105,15 +103,9 @@ pub extern "C" fn pointing_apply_equatorial(
     cos_lat: f64,
     pier: u8,
 ) -> PairAnswer
-    ensures { λ r. ⌜ r ≡ correctionAt (now (names .entry)) (now (coefficients .entry)) (now (sheet .entry)) «sin_lat» «cos_lat» pier ⌝ }
+    ensures { λ r. ⌜ r ≡ correctionAnswer (correctionAt (length (now (coefficients .entry))) (now (names .entry)) (now (coefficients .entry)) (now (sheet .entry)) «sin_lat» «cos_lat» pier) ⌝ }
 {
-    let no = refusal_at(names, coefficients, sheet, sin_lat, cos_lat, pier);
-    if no != 0 {
-        return refused_pair(no);
-    }
-    let sign = PierSide::from_code(pier).sign();
-    let m = coefficients.len();
-    given_pair(corrected(names, coefficients, m, sheet, sin_lat, cos_lat, sign))
+    correction_answer(correction_at(names, coefficients, sheet, sin_lat, cos_lat, pier))
 }
 
 // What each term contributes to the correction at one point.
@@ -126,15 +118,9 @@ pub extern "C" fn pointing_predict_breakdown(
     cos_lat: f64,
     pier: u8,
 ) -> Breakdown
-    ensures { λ r. ⌜ r ≡ breakdownAt (now (names .entry)) (now (coefficients .entry)) (now (sheet .entry)) «sin_lat» «cos_lat» pier ⌝ }
+    ensures { λ r. ⌜ r ≡ breakdownAt (length (now (coefficients .entry))) (now (names .entry)) (now (coefficients .entry)) (now (sheet .entry)) «sin_lat» «cos_lat» pier ⌝ }
 {
-    let no = refusal_at(names, coefficients, sheet, sin_lat, cos_lat, pier);
-    if no != 0 {
-        return no_breakdown(no);
-    }
-    let sign = PierSide::from_code(pier).sign();
-    let m = coefficients.len();
-    contributions(names, coefficients, m, sheet, sin_lat, cos_lat, sign)
+    breakdown_at(names, coefficients, sheet, sin_lat, cos_lat, pier)
 }
 
 // The single-step fit.

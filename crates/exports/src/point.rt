@@ -1,9 +1,8 @@
-// A pair of contributions as a C struct, and the questions of a model at one point.
+// A pair of contributions as a C struct.
 
 ghost use mathlib.Core.Path.{_≡_};
-ghost use Rattle.exports.specs.Point.{givenPair, refusedPair, pairAnswer, refusalAt};
-use model::point::point_refusal;
-use model::slots::names_refusal;
+ghost use Rattle.exports.specs.Point.{givenPair, refusedPair, pairAnswer, correctionAnswer};
+use model::Correction;
 use observation::Pair;
 use terms::answer::Jacobian;
 
@@ -44,33 +43,11 @@ pub fn pair_answer(j: Jacobian) -> PairAnswer
     }
 }
 
-// Questions 1, 2, 4, 5 and 7 to 10 of names and coefficients at one point: the number of the first no, or 0.
-pub fn refusal_at(
-    names: &[u8],
-    coefficients: &[f64],
-    sheet: &[f64],
-    sin_lat: f64,
-    cos_lat: f64,
-    pier: u8,
-) -> u8
-    ensures { λ r. ⌜ r ≡ refusalAt (now (names .entry)) (now (coefficients .entry)) (now (sheet .entry)) «sin_lat» «cos_lat» pier ⌝ }
+pub fn correction_answer(c: Correction) -> PairAnswer
+    ensures { λ r. ⌜ r ≡ correctionAnswer c ⌝ }
 {
-    let m = coefficients.len();
-    if 32 < m {
-        return 1;
+    match c {
+        Correction::Given(p) => given_pair(p),
+        Correction::Refused(k) => refused_pair(k),
     }
-    if names.len() != 16 * m {
-        return 2;
-    }
-    if sheet.len() != 37 {
-        return 2;
-    }
-    if !sequence::all_finite(coefficients) {
-        return 4;
-    }
-    let no = point_refusal(sheet, sin_lat, cos_lat, pier);
-    if no != 0 {
-        return no;
-    }
-    names_refusal(names, m)
 }

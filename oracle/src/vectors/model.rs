@@ -354,25 +354,71 @@ impl Calls {
             self.calls_on(model);
         }
         self.respelled();
+        self.orders();
     }
 
-    /// Names that are read, but not as stored: a new name in stored form is another one, its
-    /// Jacobian the same.
+    /// A model made by hand of these names, with coefficients from 1.5 on.
+    fn model_of(&mut self, names: &[&str]) -> Model {
+        let mut model = Model {
+            count: names.len(),
+            ..Model::default()
+        };
+        for (j, name) in names.iter().enumerate() {
+            model.names[j] = slot(name.as_bytes());
+            model.coefficients[j] = j as f64 + 1.5;
+        }
+        model
+    }
+
+    /// Names that are read, but not as stored: their term is there, however it is spelled, also
+    /// where the model is full.
     fn respelled(&mut self) {
         for (spelled, stored) in [("tx+05", "TX5"), ("ih", "IH"), ("hXsHcD2", "HXSHCD2")] {
-            let mut model = Model {
-                count: 1,
-                ..Model::default()
-            };
-            model.names[0] = slot(spelled.as_bytes());
-            model.coefficients[0] = 1.5;
+            let model = self.model_of(&[spelled]);
             self.hand_made(model);
-            self.add_name(spelled);
-            self.add_name(stored);
-            self.add_name(stored);
+            for name in [spelled, stored, stored, "Dcec", spelled, "DCEC"] {
+                self.add_name(name);
+            }
             self.set(&[2.5, -2.5]);
             for _ in 0..4 {
                 let place = self.real_place();
+                self.at(&place);
+            }
+            let full: Vec<String> = (0..31).map(|n| format!("tx0{}", n + 10)).collect();
+            let mut names = vec![spelled];
+            names.extend(full.iter().map(String::as_str));
+            let model = self.model_of(&names);
+            self.hand_made(model);
+            for name in [spelled, stored, "TX10", "tx+0040", "TX41", "NP"] {
+                self.add_name(name);
+            }
+        }
+        let model = self.model_of(&["np", "NP", "nP"]);
+        self.hand_made(model);
+        self.add_name("Np");
+        self.add_name("HHSH");
+    }
+
+    /// Each fault of a model beside each fault of what else a call takes.
+    fn orders(&mut self) {
+        let faults = [("IH", 1.0), ("IH", f64::NAN), ("", 1.0), ("ie", 1.0)];
+        for (name, coefficient) in faults.into_iter().chain([("QQ", 1.0), ("HHS", -0.0)]) {
+            let mut model = self.model_of(&["ID", name]);
+            model.coefficients[1] = coefficient;
+            self.hand_made(model.clone());
+            for name in [&b"IH"[..], b"", b"AN", b"ZZ", b"HZZ"] {
+                self.add(&slot(name));
+                self.add(&slot(name)[..15]);
+            }
+            self.hand_made(model);
+            for numbers in [&[1.0][..], &[f64::NAN], &[f64::NAN, 1.0], &[1.0, 2.0]] {
+                self.set(numbers);
+            }
+            for fault in 0..8 {
+                let mut place = self.real_place();
+                place.len -= fault & 1;
+                place.pier += 3 * (fault as u8 >> 1 & 1);
+                place.lat[1] /= if fault > 3 { 0.0 } else { 1.0 };
                 self.at(&place);
             }
         }
@@ -444,24 +490,50 @@ pub fn vectors() -> Vectors {
 #[cfg(test)]
 mod tests {
     use super::*;
-    use crate::model::PointingModel;
-    use crate::questions::read_term;
 
-    /// Where a model's names are as stored, the source's `add_term` finds the same names there.
-    #[test]
-    fn names_as_the_source_compares_them() {
-        let mut model = Model::default();
-        let mut source = PointingModel::new();
-        for name in NAMES.iter().chain(&NAMES) {
-            let answer = add_term(&model, &slot(name.as_bytes()));
-            assert_eq!(answer.as_ref().err(), source.add_term(name).err().as_ref());
-            model = answer.unwrap_or(model);
-            let names = model.names[..model.count].iter();
-            let names: Vec<String> = names
-                .map(|slot| read_term(slot).expect("a name").name().to_string())
-                .collect();
-            assert_eq!(names, source.term_names());
+    /// The number that a call of `add_term` gives, or 0 and how many terms there are then.
+    fn added(model: &Model, name: &str) -> (u8, usize) {
+        match add_term(model, &slot(name.as_bytes())) {
+            Ok(model) => (0, model.count),
+            Err(number) => (number, model.count),
         }
-        assert_eq!(model.count, MAX_TERMS);
+    }
+
+    fn of(name: &str, count: usize) -> Model {
+        let mut model = Model {
+            count,
+            ..Model::default()
+        };
+        model.names[..count].fill(slot(name.as_bytes()));
+        model
+    }
+
+    #[test]
+    fn a_term_is_there_however_it_is_spelled() {
+        for (spelled, name) in [("ih", "IH"), ("tx+05", "TX5"), ("TX5", "tx+05")] {
+            assert_eq!(added(&of(spelled, 1), name), (0, 1));
+            assert_eq!(added(&of(spelled, 32), name), (0, 32));
+            assert_eq!(added(&of(spelled, 32), "NP"), (14, 32));
+            assert_eq!(added(&of(spelled, 1), "NP"), (0, 2));
+        }
+    }
+
+    #[test]
+    fn questions_are_put_in_the_order_of_their_numbers() {
+        let model = of("QQ", 1);
+        let at = |len| Point {
+            sheet: &[1.0; 38][..len],
+            sin_lat: 0.0,
+            cos_lat: 1.0,
+            pier: 3,
+        };
+        assert_eq!(apply_equatorial(&model, &at(36)).err(), Some(2));
+        assert_eq!(apply_equatorial(&model, &at(37)).err(), Some(5));
+        assert_eq!(predict_breakdown(&model, &at(38)).err(), Some(2));
+        assert_eq!(add_term(&model, b"IH").err(), Some(2));
+        assert_eq!(added(&model, ""), (9, 1));
+        assert_eq!(set_coefficients(&model, &[]).err(), Some(2));
+        assert_eq!(set_coefficients(&model, &[f64::NAN]).err(), Some(4));
+        assert_eq!(set_coefficients(&model, &[1.0]).err(), Some(9));
     }
 }

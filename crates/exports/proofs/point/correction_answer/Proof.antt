@@ -1,0 +1,35 @@
+-- `exports::point::correction_answer` meets its contract. Assumes nothing.
+use mathlib.Core.Path.{ap, sym, _∙_}
+use Rattle.exports.specs.Point.{correctionAnswer}
+use borrow.Author.Needs.{needs}
+use Rattle.exports.proofs.point.correction_answer.Statement.{statement}
+use Rattle.exports.proofs.point.correction_answer.Tie as tie
+
+enum-known-c : tie.Need-enum-known-c
+enum-known-c c = search needs
+
+given-pair-requires : tie.Need-given-pair-requires
+given-pair-requires c κs = search needs
+
+enum-known-c-2 : tie.Need-enum-known-c-2
+enum-known-c-2 c = search needs
+
+refused-pair-requires : tie.Need-refused-pair-requires
+refused-pair-requires c κs = search needs
+
+returns : tie.Need-returns
+returns c = c .given-pair .ensures ∙ ap correctionAnswer (sym (c .before .before .c .given .1))
+
+returns-2 : tie.Need-returns-2
+returns-2 c = c .refused-pair .ensures ∙ ap correctionAnswer (sym (c .before .before .c2 .given .1))
+
+pub correction-answer-spec : {M : Type 1} → statement M
+correction-answer-spec =
+    tie.close
+    (tie.spec
+    enum-known-c
+    given-pair-requires
+    enum-known-c-2
+    refused-pair-requires
+    returns
+    returns-2)
