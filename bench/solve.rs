@@ -27,8 +27,8 @@ struct Outcome {
 
 // The Rattle calls are proved under conditions on the lengths, which `Lent` sees to.
 extern "C" {
-    fn pointing_factorise(w: *mut f64, len: usize, h: usize, rows: usize, m: usize) -> Sweeps;
-    fn pointing_solve_damped(
+    fn bench_factorise(w: *mut f64, len: usize, h: usize, rows: usize, m: usize) -> Sweeps;
+    fn bench_solve_damped(
         w: *mut f64,
         w_len: usize,
         c: usize,
@@ -39,7 +39,7 @@ extern "C" {
         lambda: f64,
         fit_tol: f64,
     ) -> Outcome;
-    fn pointing_leverage(
+    fn bench_leverage(
         w: *const f64,
         w_len: usize,
         h: usize,
@@ -90,7 +90,7 @@ impl Lent {
 
     fn factorise(&mut self) -> Sweeps {
         let w = &mut self.w[self.rows..];
-        unsafe { pointing_factorise(w.as_mut_ptr(), w.len(), self.h, self.rows, self.m) }
+        unsafe { bench_factorise(w.as_mut_ptr(), w.len(), self.h, self.rows, self.m) }
     }
 
     /// The outcome, and the leverage of each row.
@@ -98,12 +98,11 @@ impl Lent {
         assert!(leverage.len() <= self.rows);
         let (w, len) = (self.w.as_mut_ptr(), self.w.len());
         let (rows, h, m) = (self.rows, self.h, self.m);
-        let r = unsafe { pointing_solve_damped(w, len, rows, h, rows, m, 0, lambda, fit_tol) };
+        let r = unsafe { bench_solve_damped(w, len, rows, h, rows, m, 0, lambda, fit_tol) };
         let u = self.columns();
         for (i, l) in leverage.iter_mut().enumerate() {
-            *l = unsafe {
-                pointing_leverage(u.as_ptr(), u.len(), h, r.order.as_ptr(), m, i, &r.inv_s)
-            };
+            *l =
+                unsafe { bench_leverage(u.as_ptr(), u.len(), h, r.order.as_ptr(), m, i, &r.inv_s) };
         }
         r
     }

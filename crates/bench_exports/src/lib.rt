@@ -1,4 +1,4 @@
-// The solver's own calls in C for the benchmark, which ask what their callees ask.
+// The solver's own calls in C for the benchmark, which ask what their callees ask. They begin with `bench_`: `pointing_` is the interface's alone.
 
 ghost use mathlib.Core.Path.{_≡_};
 ghost use Prim.Native.Nat.{_+_, _*_, _≤_, _<_};
@@ -8,12 +8,7 @@ ghost use Rattle.jacobi.specs.Jacobi.{factorised};
 ghost use Rattle.linalg.specs.Linalg.{Placed, leverageOf, solvedDamped};
 
 #[no_mangle]
-pub extern "C" fn pointing_factorise(
-    w: &mut [f64],
-    h: usize,
-    rows: usize,
-    m: usize,
-) -> jacobi::Sweeps
+pub extern "C" fn bench_factorise(w: &mut [f64], h: usize, rows: usize, m: usize) -> jacobi::Sweeps
     requires { ⌜ (rows + m ≤ h) × (m * h ≤ length (now w)) ⌝ }
     ensures { λ r. ⌜ record { w = now (w .exit); made = r .made; settled = r .settled } ≡ factorised h rows m (now (w .entry)) ⌝ }
 {
@@ -21,7 +16,7 @@ pub extern "C" fn pointing_factorise(
 }
 
 #[no_mangle]
-pub extern "C" fn pointing_solve_damped(
+pub extern "C" fn bench_solve_damped(
     w: &mut [f64],
     c: usize,
     h: usize,
@@ -40,7 +35,7 @@ pub extern "C" fn pointing_solve_damped(
 
 // The leverage of row r, from the columns that a solve left and its order and inverses.
 #[no_mangle]
-pub extern "C" fn pointing_leverage(
+pub extern "C" fn bench_leverage(
     w: &[f64],
     h: usize,
     order: &[usize],
