@@ -2,7 +2,8 @@
  *
  *     controller FILE.pmf [HOURS DEGREES east|west|unknown]
  *
- * It has no heap: the run, the answer and the scratch stand in arrays of the most that a file asks. */
+ * It has no heap: the run, the answer and the scratch stand in arrays of the most that a file asks. Where the floating-point environment is not the
+ * one that the library counts on, as in a program linked with -ffast-math, it refuses to fit. */
 
 #include <math.h>
 #include <stdio.h>
@@ -140,6 +141,10 @@ int main(int argc, char **argv) {
     if (argc != 2 && argc != 5) {
         fprintf(stderr, "controller FILE.pmf [HOURS DEGREES east|west|unknown]\n");
         return 2;
+    }
+    if (!pointing_default_environment()) {
+        printf("not fitted: the floating-point environment is not the default one: rounding, flushed subnormals or traps\n");
+        return 1;
     }
     if (!read_run(argv[1])) {
         printf("%s is no PMF file\n", argv[1]);

@@ -232,6 +232,10 @@ fn main() -> ExitCode {
             return ExitCode::from(2);
         }
     };
+    if !pointing::default_environment() {
+        println!("not fitted: the floating-point environment is not the default one: rounding, flushed subnormals or traps");
+        return ExitCode::FAILURE;
+    }
     let Some(run) = read_run(path) else {
         println!("{path} is no PMF file");
         return ExitCode::FAILURE;

@@ -1,5 +1,9 @@
 //! The static library for Rust: the C declarations of `include/pointing.h`, and the same calls over slices. A program takes this file in with
 //! `#[path]` and links `target/staticlib/libexports.a`.
+//!
+//! The library counts on the floating-point environment that a program starts with: rounding to nearest, subnormals kept, no exception trapped. In another
+//! one the bits of the answers differ, and a trap ends the program. Rust itself takes the default for granted, but C code in the same program, or the
+//! linker's `-ffast-math`, may change it: `default_environment` tells, and is to be called before a fit or a correction where that can be.
 
 #![allow(dead_code)]
 
@@ -63,34 +67,52 @@ pub struct Breakdown {
 #[repr(C)]
 #[derive(Debug, Clone, Copy)]
 pub struct FitOptions {
+    /// The most trials; usual is 50.
     pub max_iter: usize,
+    /// Converged where a kept step is shorter, in radians; 1e-6.
     pub tol_rad: f64,
+    /// The first damping; 1e-3.
     pub initial_lambda: f64,
+    /// The factor after a rejected step; 10.
     pub lambda_up: f64,
+    /// The divisor after a kept step; 10.
     pub lambda_down: f64,
+    /// Weigh rows by Huber's rule: a star's hour angle and its declination each for itself.
     pub robust: bool,
+    /// Its constant; 1.345.
     pub huber_k: f64,
 }
 
-/// A fit's numbers; what it says of single terms and stars is in the buffers.
+/// A fit's numbers; what it says of single terms and stars is in the buffers. The single step says `iterations` 1, `converged` true, `final_lambda` 0
+/// and `final_step_norm` 0.
 #[repr(C)]
 #[derive(Debug, Clone, Copy)]
 pub struct FitAnswer {
     pub refusal: u8,
     pub sky_rms: f64,
     pub popn_sd: f64,
+    /// Free terms.
     pub n_free: usize,
+    /// How many of them the stars tell apart.
     pub rank: usize,
+    /// The largest singular value of the last solve, its columns scaled to length 1.
     pub sigma_max: f64,
+    /// The smallest.
     pub sigma_min: f64,
+    /// `fit_tol` as lent.
     pub tol: f64,
+    /// Trials, without the last undamped one.
     pub iterations: usize,
+    /// A kept step was shorter than `tol_rad`.
     pub converged: bool,
+    /// The damping that the next trial would have had.
     pub final_lambda: f64,
+    /// The length of the last step that was kept before the undamped trial, in radians; +infinity where none was.
     pub final_step_norm: f64,
 }
 
-// The calls ask nothing of their caller but that each pointer leads to as many values as it says.
+// The calls ask nothing of their caller but the default environment, and that each pointer leads to as many values as it says; one of length 0 is
+// neither read nor written.
 extern "C" {
     fn pointing_sqrt(x: f64) -> f64;
     fn pointing_scratch_length(m: usize, n: usize) -> Scratch;
@@ -191,6 +213,8 @@ extern "C" {
 #[derive(Debug, Clone, Copy)]
 pub struct Lent<'a> {
     pub names: &'a [u8],
+    /// 0 free, 1 fixed. A fixed term's coefficient stays what it is: the iterated fit keeps its bits, the single step adds 0 to it, so that -0
+    /// becomes +0.
     pub fixed: &'a [u8],
     pub coefficients: &'a [f64],
     pub dh: &'a [f64],
@@ -199,6 +223,7 @@ pub struct Lent<'a> {
     pub sheets: &'a [f64],
     pub sin_lat: f64,
     pub cos_lat: f64,
+    /// A singular value counts where it is above `fit_tol` times the largest, or above 0 where `fit_tol` is not above 0.
     pub fit_tol: f64,
 }
 
@@ -219,6 +244,15 @@ pub struct Point<'a> {
     pub sin_lat: f64,
     pub cos_lat: f64,
     pub pier: u8,
+}
+
+/// Whether this thread has the floating-point environment that the library counts on, from MXCSR as `pointing_default_environment` of the header.
+pub fn default_environment() -> bool {
+    let mut mxcsr = 0u32;
+    unsafe {
+        std::arch::asm!("stmxcsr [{}]", in(reg) &mut mxcsr, options(nostack, preserves_flags));
+    }
+    mxcsr & 0xffc0 == 0x1f80
 }
 
 pub fn sqrt(x: f64) -> f64 {

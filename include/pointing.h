@@ -34,9 +34,16 @@
  *
  * Extreme numbers can overflow: an answer may then hold infinities, or NaNs, whose bits mean nothing.
  *
+ * The library counts on the floating-point environment that a program starts with: rounding to nearest, subnormals kept, no exception trapped.
+ * After fesetround(FE_UPWARD), with subnormals flushed to zero (as in every program that is linked with -ffast-math) or with traps on
+ * (feenableexcept) nothing is promised: the bits of the answers differ, and a call may not come back. It neither asks nor changes the environment,
+ * which belongs to each thread: pointing_default_environment() below tells whether it is the default, and is to be called before a fit or a
+ * correction wherever other code may have changed it.
+ *
  * The library keeps no state, allocates nothing, and calls nothing but memcpy and memset. Calls may be made at the same time from several
  * threads, on buffers that do not overlap. A pointer must lead to as many values as its length says, aligned as C asks; one of length 0 is not
- * read but must not be null. Buffers must overlap neither each other nor what is read. */
+ * read or written, and may be null: names NULL, 0 and coefficients NULL, 0 are the empty model. Buffers must overlap neither each other nor what is
+ * read. */
 
 #ifndef POINTING_H
 #define POINTING_H
@@ -44,6 +51,7 @@
 #include <stdbool.h>
 #include <stddef.h>
 #include <stdint.h>
+#include <xmmintrin.h>
 
 #ifdef __cplusplus
 extern "C" {
@@ -59,6 +67,10 @@ extern "C" {
 #define POINTING_MAX_SCRATCH 142592
 
 enum pointing_pier { POINTING_UNKNOWN = 0, POINTING_EAST = 1, POINTING_WEST = 2 };
+
+/* Whether this thread has the floating-point environment that the library counts on. In MXCSR, which rules all its operations, bits 13 and 14 are
+ * the rounding, 0 to nearest; 15 and 6 flush subnormal results and operands; 7 to 12 mask the exceptions. The flags below them don't count. */
+static inline bool pointing_default_environment(void) { return (_mm_getcsr() & 0xffc0u) == 0x1f80u; }
 
 /* The square root, correctly rounded. */
 double pointing_sqrt(double x);
@@ -115,7 +127,7 @@ typedef struct {
     double initial_lambda; /* the first damping; 1e-3 */
     double lambda_up;      /* the factor after a rejected step; 10 */
     double lambda_down;    /* the divisor after a kept step; 10 */
-    bool robust;           /* weigh stars by Huber's rule */
+    bool robust;           /* weigh rows by Huber's rule: a star's hour angle and its declination each for itself */
     double huber_k;        /* its constant; 1.345 */
 } pointing_fit_options;
 
@@ -123,17 +135,20 @@ typedef struct {
     uint8_t refusal;
     double sky_rms, popn_sd;
     size_t n_free, rank;             /* free terms, and how many of them the stars tell apart */
-    double sigma_max, sigma_min, tol; /* largest and smallest singular value, and from where on one counts */
-    size_t iterations;               /* trials, without the last undamped one; the single step says 1 */
-    bool converged;
-    double final_lambda, final_step_norm;
-} pointing_fit_answer;
+    double sigma_max, sigma_min;     /* largest and smallest singular value of the last solve, its columns scaled to length 1 */
+    double tol;                      /* fit_tol as lent */
+    size_t iterations;               /* trials, without the last undamped one */
+    bool converged;                  /* a kept step was shorter than tol_rad */
+    double final_lambda;             /* the damping that the next trial would have had */
+    double final_step_norm;          /* the length of the last step that was kept before the undamped trial; +infinity where none was */
+} pointing_fit_answer;               /* the single step says iterations 1, converged true, final_lambda 0, final_step_norm 0 */
 
 /* Both fits of n stars to m terms. The iterated one returns the best of the sets that it tried (docs/PROMISES.md, demand 3). The single step
  * asks questions 1 to 5 and 7 to 13, the iterated fit 1 to 13.
  *
- * Read: m names; m fixed flags (0 free, 1 keeps its coefficient); m start coefficients; n differences in hour angle and n in declination,
- * observed less commanded; n pier codes; n sheets; fit_tol: a singular value counts where it is above fit_tol times the largest.
+ * Read: m names; m fixed flags (0 free, 1 fixed); m start coefficients; n differences in hour angle and n in declination, observed less commanded;
+ * n pier codes; n sheets; fit_tol: a singular value counts where it is above fit_tol times the largest, or above 0 where fit_tol is not above 0.
+ * A fixed term's coefficient stays what it is: the iterated fit keeps its bits, the single step adds 0 to it, so that -0 becomes +0.
  * Written, where accepted: m coefficients to out, m changes from the start to change, m to sigma, 3 n to diagnostics (residual on the sky, leverage,
  * studentized residual for each star), zeros to the scratch asked for. Places behind these are kept. */
 pointing_fit_answer pointing_fit_model(const uint8_t *names, size_t names_len, const uint8_t *fixed, size_t fixed_len, const double *coefficients,

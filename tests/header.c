@@ -1,0 +1,86 @@
+/* Tests what include/pointing.h says at the edges: null pointers of length 0, fixed coefficients of -0, and what a fit reports of itself. */
+
+#include "stars.h"
+
+static pointing_fit_answer without_anything(void) {
+    return pointing_fit_model(NULL, 0, NULL, 0, NULL, 0, NULL, 0, NULL, 0, NULL, 0, NULL, 0, 0.5, 0.8, 1e-12, NULL, 0, NULL, 0, NULL, 0, NULL, 0, NULL, 0);
+}
+
+static pointing_fit_answer without_anything_iterated(void) {
+    return pointing_fit_model_iterated(NULL, 0, NULL, 0, NULL, 0, NULL, 0, NULL, 0, NULL, 0, NULL, 0, 0.5, 0.8, 1e-12, options, NULL, 0, NULL, 0, NULL, 0,
+                                       NULL, 0, NULL, 0);
+}
+
+/* m terms of the run, and no star. */
+static pointing_fit_answer without_stars(size_t m) {
+    return pointing_fit_model(names, 16 * m, fixed, m, start, m, NULL, 0, NULL, 0, NULL, 0, NULL, 0, 0.5, 0.8, 1e-12, out, M, change, M, sigma, M, NULL, 0,
+                              scratch, SCRATCH);
+}
+
+static pointing_fit_answer without_buffers(void) {
+    return pointing_fit_model(names, 16 * M, fixed, M, start, M, dh, N, dd, N, pier, N, sheets, 37 * N, 0.5, 0.8, 1e-12, NULL, 0, NULL, 0, NULL, 0, NULL, 0,
+                              NULL, 0);
+}
+
+static void null_fits(void) {
+    fill(1);
+    expect(without_anything().refusal == 11, "a fit of nothing at null pointers gives 11");
+    expect(without_anything_iterated().refusal == 11, "an iterated fit of nothing at null pointers gives 11");
+    expect(without_stars(1).refusal == 13, "a free term and no star at null pointers give 13");
+    fixed[0] = 1;
+    expect(without_stars(1).refusal == 12, "a fixed term and no star at null pointers give 12");
+    expect(without_stars(0).refusal == 11, "no term and no star give 11");
+    fixed[0] = 0;
+    expect(without_buffers().refusal == 3, "null buffers of length 0 give 3");
+}
+
+/* The empty model, and slots and sheets that are not there. */
+static void null_points(void) {
+    fill(1);
+    pointing_pair pair = pointing_apply_equatorial(NULL, 0, NULL, 0, sheets, 37, 0.5, 0.8, 1);
+    expect(pair.refusal == 0 && bits(pair.dh) == 0 && bits(pair.dd) == 0, "the empty model at null pointers corrects by 0 and 0");
+    expect(pointing_apply_equatorial(NULL, 0, NULL, 0, NULL, 0, 0.5, 0.8, 1).refusal == 2, "no sheet gives 2");
+    expect(pointing_apply_equatorial(NULL, 0, start, 1, sheets, 37, 0.5, 0.8, 1).refusal == 2, "no names for a coefficient give 2");
+    expect(pointing_apply_equatorial(names, 16, NULL, 0, sheets, 37, 0.5, 0.8, 1).refusal == 2, "no coefficient for a name gives 2");
+    pointing_breakdown parts = pointing_predict_breakdown(NULL, 0, NULL, 0, sheets, 37, 0.5, 0.8, 1);
+    bool zeros = parts.refusal == 0;
+    for (int j = 0; j < 32; j++) zeros = zeros && bits(parts.dh[j]) == 0 && bits(parts.dd[j]) == 0;
+    expect(zeros, "the empty model at null pointers has no parts");
+    expect(pointing_predict_breakdown(NULL, 0, NULL, 0, NULL, 0, 0.5, 0.8, 1).refusal == 2, "no sheet gives 2");
+    expect(pointing_jacobian(NULL, 0, sheets, 37, 0.5, 0.8, 1).refusal == 2, "no slot gives 2");
+    expect(pointing_jacobian(names, 16, NULL, 0, 0.5, 0.8, 1).refusal == 2, "no sheet gives 2");
+    expect(pointing_read_term(NULL, 0).refusal == 2, "no slot gives 2");
+}
+
+/* A fixed -0: the single step makes it +0, the iterated fit keeps its bits; another fixed coefficient stays. */
+static void fixed_coefficients(void) {
+    fill(1);
+    fixed[1] = fixed[2] = 1, start[1] = -0.0, start[2] = 0.3;
+    expect(single().refusal == 0 && bits(out[1]) == 0 && bits(out[2]) == bits(0.3), "the single step adds 0 to a fixed coefficient");
+    expect(iterated().refusal == 0 && bits(out[1]) == bits(-0.0) && bits(out[2]) == bits(0.3), "the iterated fit keeps its bits");
+}
+
+static void reports(void) {
+    fill(1);
+    pointing_fit_answer said = single();
+    expect(said.refusal == 0 && bits(said.tol) == bits(1e-12), "tol is fit_tol as lent");
+    expect(said.iterations == 1 && said.converged, "the single step says 1 iteration and converged");
+    expect(bits(said.final_lambda) == 0 && bits(said.final_step_norm) == 0, "the single step says lambda 0 and step 0");
+    said = iterated();
+    expect(said.refusal == 0 && bits(said.tol) == bits(1e-12), "tol is fit_tol as lent");
+    expect(said.converged && said.final_step_norm >= 0 && said.final_step_norm < options.tol_rad, "converged where a kept step is short");
+    options.max_iter = 0;
+    said = iterated();
+    expect(said.refusal == 0 && said.iterations == 0 && !said.converged, "no trial, not converged");
+    expect(bits(said.final_step_norm) == 0x7ff0000000000000, "without a kept step its length is +infinity");
+    expect(bits(said.final_lambda) == bits(options.initial_lambda), "without a trial the damping is the first");
+    options.max_iter = 50;
+}
+
+int main(void) {
+    null_fits();
+    null_points();
+    fixed_coefficients();
+    reports();
+    return failures != 0;
+}
