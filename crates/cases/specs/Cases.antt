@@ -1,54 +1,38 @@
--- The cases of document 01, "Readings and fits", as one table, and the theorem that the definitions of the public calls give each row's answer.
--- Starred there: every row but the last three, HXSHCD2, TX2 and the four stars.
+-- The cases of document 01, "Readings and fits", as one table. Starred there: every row but the last three, HXSHCD2, TX2 and the four stars.
+-- Definitions only.
 use Prim.Native.Nat.{ℕ, zero, suc, _+_, _*_}
 use Prim.Native.String.{String}
-use mathlib.Core.Path.{_≡_, refl}
+use mathlib.Core.Path.{_≡_}
 use mathlib.Core.Bool.{Bool, false}
 use mathlib.Core.List.{List, [], _∷_, _++_, map}
-use mathlib.Core.List.{zipWith}
 use lib.ListN.{length, replicate}
-use lib.Ieee.{Float, inf, binary64, ofBits, ofInt, neg, add, sub, mul, div, lt, le, eq}
-use Rattle.float.specs.Float.{#0, #1, #2, abs, isFinite}
-use Rattle.sequence.specs.Sequence.{at, table, filled, each, sumTo, sumBut, dot}
-use Rattle.sqrt.specs.Sqrt as Root
+use lib.Ieee.{Float, inf, binary64, ofBits, neg}
+use Rattle.float.specs.Float.{#0, #1, #2}
+use Rattle.sequence.specs.Sequence.{at, table}
 use Rattle.observation.specs.Observation.{pairOf}
-use Rattle.observation.specs.Sheet.{pointOf}
 use Rattle.observation.specs.declared.Pair.{Pair}
 use Rattle.equatorial.specs.declared.EquatorialTerm.the-variants.{IH, TXN, HCES}
 use Rattle.harmonic.specs.Table.{ascii}
-use Rattle.harmonic.specs.Harmonic.{components, parseHarmonic, arrayOf}
+use Rattle.harmonic.specs.Harmonic.{arrayOf}
 use Rattle.harmonic.specs.declared.TrigFunc.{TrigFunc}
 use Rattle.harmonic.specs.declared.Coordinate.{Coordinate}
 use Rattle.harmonic.specs.declared.ResultType.{ResultType}
 use Rattle.harmonic.specs.declared.HarmonicComponent.{HarmonicComponent}
-use Rattle.terms.specs.Names.{padded, nameOf, wellFormed, digitsFrom, unsigned, readHarmonic, byKnown, readTerm, accepted, refused}
+use Rattle.terms.specs.Names.{padded, readTerm, accepted, refused}
 use Rattle.terms.specs.Jacobian.{jacobianOf}
 use Rattle.terms.specs.declared.TermKind.the-variants.{Equatorial, Harmonic}
 use Rattle.terms.specs.declared.Reading.{Reading}
 use Rattle.terms.specs.declared.answer.Jacobian.{Jacobian}
 use Rattle.terms.specs.declared.answer.Jacobian.the-variants.{Given}
-use Rattle.jacobi.specs.Jacobi.{zetaOf, tanOf, cosOf, turn, pair, row, sweep, sweeps}
-use Rattle.column.specs.Column.{norm, norms, scaleOf, scaledColumn, unitColumn, columns, diagonal, diagonals, extended}
-use Rattle.order.specs.Order.{best, order}
-use Rattle.linalg.specs.Linalg.{decomposed, threshold, inverse, inverses, rankTo, projected, xScaled, solution, scaledVariance, covariance, leverageOf, answered, solved, solvedDamped}
 use Rattle.solver.specs.declared.Fit.{Fit}
 use Rattle.solver.specs.declared.Fit.the-variants.{Done, Refused}
-use Rattle.design.specs.Design as Design
-use Rattle.design.specs.Design.{stars, column, skyColumn, differences, skyDifferences, freeBefore, ofFree, subtractAll, product, predicted, freeProduct, weighing, laid}
-use Rattle.design.specs.Filled.{rowsTo, skyRows}
 use Rattle.validate.specs.Call.{Lent, Buffers, lent, buffers}
-use Rattle.validate.specs.Questions.{limits, counts, scratchNeeded, room, finiteInput, finiteOptions, codesKnown, namesNo, asked}
-use Rattle.stats.specs.Stats.{sumSqSky, skyRms, popnSd, variance, sigmaAt, deviation, clamped, studentizedRow, diagnostic}
+use Rattle.validate.specs.Questions.{scratchNeeded}
 use Rattle.solver.specs.Records.{defaults}
 use Rattle.solver.specs.declared.IterOptions.{IterOptions}
-use Rattle.best.specs.ChiSquare.{chi}
-use Rattle.best.specs.Trials.{after}
-use Rattle.outcome.specs.Outcome.{Outcome, sigmaOf, diagnosticOf, threes, resultOf, finished}
-use Rattle.single_step.specs.SingleStep.{toFit, step, change, newCoefficients, freeResiduals, residuals, fitted, fitOutcome}
-use Rattle.lm_system.specs.System as System
-use Rattle.lm_system.specs.System.{chi2Of, skyResiduals, huberFrom, lmStep, moved}
-use Rattle.iterated.specs.Iterated as Iterated
-use Rattle.iterated.specs.Iterated.{lmLoop, lastSet, iteratedOutcome}
+use Rattle.outcome.specs.Outcome.{Outcome}
+use Rattle.single_step.specs.SingleStep.{fitOutcome}
+use Rattle.iterated.specs.Iterated.{iteratedOutcome}
 
 -- an answer of a public call: of a fit the coefficients and the rank, or the coefficients, the sky RMS and each star's leverage, or the
 -- coefficients, the iterations, whether it converged, and the step norm
@@ -202,6 +186,6 @@ rows =
     fourStars ∷
     []
 
-pub starred : map (λ (r : Row). r .got) rows ≡ map (λ (r : Row). r .wanted) rows
-unfolding nameOf wellFormed digitsFrom unsigned components parseHarmonic readHarmonic byKnown readTerm jacobianOf pointOf isFinite abs neg add sub mul div lt le eq ofBits ofInt Root.sqrt table filled each sumTo sumBut dot zipWith fitOutcome asked limits counts scratchNeeded room finiteInput finiteOptions codesKnown namesNo fitted finished resultOf step toFit change newCoefficients freeResiduals residuals sigmaOf diagnosticOf threes stars Design.rows column skyColumn differences skyDifferences freeBefore ofFree subtractAll product freeProduct laid sumSqSky skyRms popnSd variance sigmaAt deviation clamped studentizedRow diagnostic solved answered decomposed norms norm scaleOf scaledColumn unitColumn columns diagonal diagonals extended inverses inverse rankTo projected xScaled solution scaledVariance covariance leverageOf threshold order best sweeps sweep row pair turn zetaOf tanOf cosOf iteratedOutcome Iterated.fitted lmLoop after lastSet Iterated.freeResiduals Iterated.change chi2Of chi System.residuals skyResiduals huberFrom lmStep moved solvedDamped predicted weighing skyRows rowsTo
-starred = refl
+-- each row's answer is what the definitions of the public calls give: proofs/Starred.antt
+abbrev pub Starred : Type 0
+Starred = map (λ (r : Row). r .got) rows ≡ map (λ (r : Row). r .wanted) rows

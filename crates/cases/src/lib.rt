@@ -1,1 +1,1 @@
-// No code: the starred cases of document 01, proved of the definitions in specs/Cases.antt.
+// No code: the cases of document 01 are a table of definitions (specs/Cases.antt) and one theorem over it (proofs/Starred.antt).
