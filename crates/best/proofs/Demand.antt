@@ -1,14 +1,13 @@
--- Demand 3: of all the sets that a loop of trials tries, none has an exact chi-square that is less than the answer's by more than one part
--- in 2 ^ 41. In units, and in fractions. Assumes nothing.
-use mathlib.Core.Path.{_≡_, subst}
-use Prim.Native.Nat.{ℕ, _+_, _*_, _≤_}
+-- Demand 3: the exact chi-square of a loop's answer, as a fraction, is at most 1 + 2 ^ -41 times that of every set that the loop tries.
+-- Assumes nothing.
+use mathlib.Core.Path.{_≡_}
+use Prim.Native.Nat.{ℕ, _≤_}
 use mathlib.Core.Bool.{not}
 use mathlib.Core.List.{List·Memᴰ}
 use lib.Dec.{T}
 use lib.Ieee.{Float, binary64, lt, fits}
-use Rattle.best.specs.ChiSquare.{chi, exact, exactSum, AllTame, AllFine, parts, AtMost}
+use Rattle.best.specs.ChiSquare.{chi, exactSum, AllTame, AllFine, AtMost}
 use Rattle.best.specs.Trials.{Trials, answer, tried, Keeps}
-use Rattle.best.proofs.Compare.{exact-of-not-lt}
 use Rattle.best.proofs.Fraction.{fraction-of-not-lt}
 use Rattle.best.proofs.Best.{none-below, answer-best}
 
@@ -28,14 +27,7 @@ module _ {L A : Type 0} (p : Trials L A) (Ok : L → Type 0) (rule : Keeps p Ok)
 
   pub demand3 : (k : ℕ) (s : L) → Ok s → (x : A) → List·Memᴰ x (tried p k s)
       → AllTame (h x) (d x) n → AllTame (h (answer p k s)) (d (answer p k s)) n
-      → parts * exact (h (answer p k s)) (d (answer p k s)) n ≤ (parts + 1) * exact (h x) (d x) n
-  demand3 k s ok x m f g =
-      let r = answer p k s in
-      exact-of-not-lt (h r) (d r) (h x) (d x) n few (fine r g) (fine x f) (computed k s ok x m)
-
-  pub demand3-fractions : (k : ℕ) (s : L) → Ok s → (x : A) → List·Memᴰ x (tried p k s)
-      → AllTame (h x) (d x) n → AllTame (h (answer p k s)) (d (answer p k s)) n
       → AtMost (exactSum (h (answer p k s)) (d (answer p k s)) n) (exactSum (h x) (d x) n)
-  demand3-fractions k s ok x m f g =
+  demand3 k s ok x m f g =
       let r = answer p k s in
       fraction-of-not-lt (h r) (d r) (h x) (d x) n few (fine r g) (fine x f) (computed k s ok x m)

@@ -1,6 +1,6 @@
 -- Demand 3 follows from the definitions: the set that the search comes to is the best of the sets that it tries, and an accepted call returns
 -- that set. Assumes nothing.
-use Prim.Native.Nat.{ℕ, zero, suc, _+_, _-_, _*_, _^_, _≤_, _<_}
+use Prim.Native.Nat.{ℕ, zero, suc, _+_, _-_, _*_, _≤_, _<_}
 use native.Mathlib.Nat.{zero-add, suc-add}
 use native.Mathlib.Omega.{arith}
 use mathlib.Core.Path.{_≡_, refl, sym, ap, _∙_, subst}
@@ -13,12 +13,11 @@ use lib.Ieee.{Float, nan, binary64, fits, sub, lt, le}
 use lib.Ieee.Fits.{nan-fits, mul-fits, sub-fits}
 use Rattle.sequence.specs.Sequence.{at, table}
 use Rattle.sequence.proofs.Fills.{table-length, take-filled, table-front}
-use Rattle.best.specs.ChiSquare.{chi, exactSum, Ratio, parts}
+use Rattle.best.specs.ChiSquare.{chi, AtMost}
 use Rattle.best.specs.Trials.{proposed, answer, Keeps}
 use Rattle.best.proofs.Best.{answer-listed}
 use Rattle.best.proofs.Counts.{after-holds, few-proposed, counts, tried-length}
 use Rattle.best.proofs.Demand.{demand3}
-use Rattle.best.proofs.Fraction.{exact-is-sum}
 use Rattle.solver.specs.declared.Fit.{Fit}
 use Rattle.solver.specs.declared.Fit.the-variants.{Done, Refused}
 use Rattle.solver.specs.declared.FitResult.{FitResult}
@@ -28,7 +27,7 @@ use Rattle.design.specs.Design.{isFree}
 use Rattle.outcome.specs.Outcome.{resultOf, Outcome, outcome, finished}
 use Rattle.lm_system.specs.System.{residuals, hour, dec, chi2Of, movedAt, moved}
 use Rattle.iterated.specs.Iterated.{under, chi2At, Tried, trialOf, Report, answered, trials, begin, lmLoop, lastSet, fitted}
-use Rattle.iterated.specs.Demand3.{triedSets, exactAt, TameAt, BestOfTried, Demand3}
+use Rattle.iterated.specs.Demand3.{triedSets, exactSumAt, TameAt, BestOfTried, Demand3}
 use Rattle.iterated.proofs.Laws.{moved-length}
 
 -- ---- each residual is what an operation made
@@ -157,18 +156,12 @@ best-of-tried l o few =
     let is = sym (final-is l o) in
     record {
       listed = subst (λ (z : List Float). List·Memᴰ z (triedSets l o)) is (answer-listed p (Known l o) (rule l o) k r refl);
-      best = λ x m f. subst (λ (z : List Float). TameAt l z → parts * exactAt l z ≤ (parts + 1) * exactAt l x) is
+      best = λ x m f. subst (λ (z : List Float). TameAt l z → AtMost (exactSumAt l z) (exactSumAt l x)) is
           (demand3 p (Known l o) (rule l o) (λ s. hour (under l s)) (λ s. dec (under l s)) (length (l .dh)) few (is-chi l o) (λ s. made (under l s)) k r refl x m f);
       kept = final-kept l o .fixed;
       counted = omega (arith, count-end l o, tried-length p k r);
       limited = omega (arith, count-end l o, few-proposed p k r);
     }
-
--- the exact chi-square of a set in its units is the sum of the exact squares of its weighted residuals, as a fraction
-pub exact-at-is-sum : (l : Lent) (s : List Float) → TameAt l s → Ratio (exactSum (hour (under l s)) (dec (under l s)) (length (l .dh))) (exactAt l s) (2 ^ 2148)
-exact-at-is-sum l s t =
-    let m = made (under l s) in
-    exact-is-sum (hour (under l s)) (dec (under l s)) (length (l .dh)) (λ i h. ((m i .0, t i h .0), (m i .1, t i h .1)))
 
 -- ---- an accepted call: its answer, and what the buffers hold at its end
 

@@ -1,12 +1,12 @@
 -- Demand 3, of the iterated fit: the set that it returns is the best of all the sets that it tries. Definitions only.
-use Prim.Native.Nat.{ℕ, _+_, _*_, _≤_, _<_}
+use Prim.Native.Nat.{ℕ, _+_, _≤_, _<_}
 use mathlib.Core.Path.{_≡_}
 use mathlib.Core.Bool.{false}
 use mathlib.Core.List.{List, List·Memᴰ}
 use lib.ListN.{length, take}
 use lib.Ieee.{Float}
 use Rattle.sequence.specs.Sequence.{at}
-use Rattle.best.specs.ChiSquare.{exact, AllTame, parts}
+use Rattle.best.specs.ChiSquare.{Frac, exactSum, AllTame, AtMost}
 use Rattle.best.specs.Trials.{tried}
 use Rattle.solver.specs.declared.Fit.{Fit}
 use Rattle.solver.specs.declared.Fit.the-variants.{Done, Refused}
@@ -20,18 +20,18 @@ use Rattle.iterated.specs.Iterated.{under, trials, begin}
 abbrev pub triedSets : Lent → IterOptions → List (List Float)
 triedSets l o = tried (trials l o) (o .«max_iter») (begin l o)
 
--- the exact chi-square of a set, in units of 2 ^ -2148; and that each of its weighted residuals is zero or of a size from 2 ^ -400 to 2 ^ 400
-abbrev pub exactAt : Lent → List Float → ℕ
-exactAt l s = exact (hour (under l s)) (dec (under l s)) (length (l .dh))
+-- the exact chi-square of a set: the sum of the exact squares of its weighted residuals, as a fraction
+abbrev pub exactSumAt : Lent → List Float → Frac
+exactSumAt l s = exactSum (hour (under l s)) (dec (under l s)) (length (l .dh))
 
+-- each of them is zero or of a size from 2 ^ -400 to 2 ^ 400
 abbrev pub TameAt : Lent → List Float → Type 0
 TameAt l s = AllTame (hour (under l s)) (dec (under l s)) (length (l .dh))
 
--- the set s is returned, after so many iterations
+-- the set s is returned, after so many iterations; `AtMost`: at most (1 + 2 ^ -41) times as much
 pub record BestOfTried (l : Lent) (o : IterOptions) (s : List Float) (iterations : ℕ) : Type 0 where
   pub listed : List·Memᴰ s (triedSets l o)
-  pub best : (other : List Float) → List·Memᴰ other (triedSets l o) → TameAt l other → TameAt l s
-      → parts * exactAt l s ≤ (parts + 1) * exactAt l other
+  pub best : (other : List Float) → List·Memᴰ other (triedSets l o) → TameAt l other → TameAt l s → AtMost (exactSumAt l s) (exactSumAt l other)
   pub kept : (j : ℕ) → j < length (l .coefficients) → isFree (l .fixed) j ≡ false → at s j ≡ at (l .coefficients) j
   pub counted : iterations + 2 ≡ length (triedSets l o)
   pub limited : iterations ≤ o .«max_iter»
