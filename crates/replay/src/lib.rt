@@ -21,9 +21,14 @@ pub fn double() -> f64 {
     little_endian::f64_at(&b, 0)
 }
 
-// Whether x is the next double of standard input, in its bits; any NaN is any NaN.
+// Whether two numbers are the same in their bits; any NaN is any NaN.
+pub fn same_bits(x: f64, y: f64) -> bool {
+    float::to_bits(x) == float::to_bits(y)
+}
+
+// Whether x is the next double of standard input.
 pub fn same_double(x: f64) -> bool {
-    float::to_bits(x) == float::to_bits(double())
+    same_bits(x, double())
 }
 
 pub fn read_doubles(s: &mut [f64]) {

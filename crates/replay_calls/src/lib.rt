@@ -126,10 +126,10 @@ fn read_sheets(pool: &[f64], sheets: &mut [f64], count: usize)
     }
 }
 
-// Whether each number of s is x.
+// Whether each number of s is x, in its bits.
 fn all_are(s: &[f64], x: f64) -> bool {
     for i in 0..s.len() {
-        if s[i] != x {
+        if !replay::same_bits(s[i], x) {
             return false;
         }
     }

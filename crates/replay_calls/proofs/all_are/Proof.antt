@@ -15,11 +15,14 @@ abbrev μ-loop : tie.MeasureT-loop
 loop-holds : tie.Need-loop-holds Inv-loop μ-loop
 loop-holds c = (refl, omega arith)
 
-mul-if1 : tie.Need-mul-if1 Inv-loop μ-loop
-mul-if1 c = omega arith
+mul-same-bits : tie.Need-mul-same-bits Inv-loop μ-loop
+mul-same-bits c = omega arith
 
-shared-slice-read-if1 : tie.Need-shared-slice-read-if1 Inv-loop μ-loop
-shared-slice-read-if1 c = omega arith
+shared-slice-read-same-bits : tie.Need-shared-slice-read-same-bits Inv-loop μ-loop
+shared-slice-read-same-bits c = omega arith
+
+same-bits-requires : tie.Need-same-bits-requires Inv-loop μ-loop
+same-bits-requires c κs = tt
 
 returns : tie.Need-returns Inv-loop μ-loop
 returns c = tt
@@ -43,8 +46,9 @@ all-are-spec =
     Inv-loop
     μ-loop
     loop-holds
-    mul-if1
-    shared-slice-read-if1
+    mul-same-bits
+    shared-slice-read-same-bits
+    same-bits-requires
     returns
     add-i
     loop-less
