@@ -1,6 +1,9 @@
 // What the programs that replay the oracle's answers share: records from standard input, and lines of counts.
 
-ghost use Prim.Native.Nat.{_<_};
+ghost use Prim.Native.Nat.{_<_, _≤_};
+
+// Stands behind the last record. No record begins with it.
+const MARK: u8 = 255;
 
 // Fills buf from standard input; false where the input ends before.
 pub fn next(buf: &mut [u8]) -> bool {
@@ -12,6 +15,70 @@ pub fn byte() -> u8 {
     let mut b = [0u8; 1];
     next(&mut b);
     b[0]
+}
+
+// What standard input goes on with: where `more`, a record whose first byte is `first`; else its end, which is `whole` where the mark
+// stands there and nothing behind it.
+pub struct Ahead {
+    pub more: bool,
+    pub first: u8,
+    pub whole: bool,
+}
+
+pub fn head() -> Ahead {
+    let mut b = [0u8; 1];
+    let given = next(&mut b);
+    let first = b[0];
+    let more = given && first != MARK;
+    let mut behind = [0u8; 1];
+    let whole = given && !more && !next(&mut behind);
+    Ahead { more, first, whole }
+}
+
+// The differences with the end of the input counted as one, unless it is whole.
+pub fn ended(different: u64, end: Ahead) -> u64 {
+    if end.whole {
+        different
+    } else {
+        more(different)
+    }
+}
+
+// Reads on to the end, where the input holds what the oracle doesn't write: no mark is found behind that.
+pub fn abandon() {
+    let mut rest = io::large_buffer();
+    let mut turns = u64::MAX;
+    while turns > 0 && next(&mut rest) {
+        turns -= 1;
+    }
+}
+
+// A number of two bytes up to a limit; where it is above, the input is abandoned.
+pub fn small(limit: usize) -> usize
+    ensures { λ r. ⌜ r ≤ limit ⌝ }
+{
+    let mut b = [0u8; 2];
+    next(&mut b);
+    let x = little_endian::u16_at(&b, 0) as usize;
+    if x <= limit {
+        return x;
+    }
+    abandon();
+    limit
+}
+
+// The same of four bytes.
+pub fn large(limit: usize) -> usize
+    ensures { λ r. ⌜ r ≤ limit ⌝ }
+{
+    let low = small(65535);
+    let high = small(65535);
+    let x = low + 65536 * high;
+    if x <= limit {
+        return x;
+    }
+    abandon();
+    limit
 }
 
 // A double of standard input.

@@ -53,42 +53,22 @@ const SINGLE: u8 = 0;
 
 const ROBUST: u8 = 3;
 
-// A number of standard input below 65,536, cut to a limit.
-fn small(limit: usize) -> usize
-    ensures { λ r. ⌜ r ≤ limit ⌝ }
-{
-    let mut b = [0u8; 2];
-    replay::next(&mut b);
-    let x = little_endian::u16_at(&b, 0) as usize;
-    if x <= limit { x } else { limit }
-}
-
-// The same of four bytes.
-fn large(limit: usize) -> usize
-    ensures { λ r. ⌜ r ≤ limit ⌝ }
-{
-    let low = small(65535);
-    let high = small(65535);
-    let x = low + 65536 * high;
-    if x <= limit { x } else { limit }
-}
-
 // The numbers of a call's head, after its mode.
 fn read_sizes() -> Sizes
     ensures { λ r. ⌜ (r .m ≤ 40) × (r .n ≤ 1100) × (r .names ≤ 700) × (r .fixed ≤ 64) × (r .dd ≤ 1200) × (r .pier ≤ 1200) × (r .sheets ≤ 41000) × (r .coefficients ≤ 64) × (r .change ≤ 64) × (r .sigma ≤ 64) × (r .diagnostics ≤ 3400) × (r .scratch ≤ 150000) ⌝ }
 {
-    let m = small(40);
-    let n = small(1100);
-    let names = small(700);
-    let fixed = small(64);
-    let dd = small(1200);
-    let pier = small(1200);
-    let sheets = large(41000);
-    let coefficients = small(64);
-    let change = small(64);
-    let sigma = small(64);
-    let diagnostics = small(3400);
-    let scratch = large(150000);
+    let m = replay::small(40);
+    let n = replay::small(1100);
+    let names = replay::small(700);
+    let fixed = replay::small(64);
+    let dd = replay::small(1200);
+    let pier = replay::small(1200);
+    let sheets = replay::large(41000);
+    let coefficients = replay::small(64);
+    let change = replay::small(64);
+    let sigma = replay::small(64);
+    let diagnostics = replay::small(3400);
+    let scratch = replay::large(150000);
     Sizes {
         m,
         n,
@@ -120,7 +100,7 @@ fn read_sheets(pool: &[f64], sheets: &mut [f64], count: usize)
     requires { ⌜ (37 * 400 ≤ length (now pool)) × (37 * count ≤ length (now sheets)) ⌝ }
 {
     for i in 0..count {
-        let k = small(399);
+        let k = replay::small(399);
         let a = 37 * i;
         copy_sheet(pool, k, &mut sheets[a..a + 37]);
     }
@@ -183,7 +163,7 @@ fn hold_result(held: Held, r: FitResult) -> Held {
     held = hold(held, rank_info.sigma_max);
     held = hold(held, rank_info.sigma_min);
     held = hold(held, rank_info.tol);
-    let iterations = small(65535);
+    let iterations = replay::small(65535);
     let converged = replay::byte();
     held = hold(held, iter_report.final_lambda);
     held = hold(held, iter_report.final_step_norm);
@@ -477,7 +457,7 @@ fn read_options(robust: bool) -> IterOptions {
     let lambda_up = replay::double();
     let lambda_down = replay::double();
     let huber_k = replay::double();
-    let max_iter = small(65535);
+    let max_iter = replay::small(65535);
     IterOptions {
         max_iter,
         tol_rad,
@@ -550,27 +530,14 @@ fn lend(t: Tally, s: Sizes, p: Scalars, bytes: &[u8], numbers: &[f64]) -> Tally
     )
 }
 
-struct Step {
-    more: bool,
-    tally: Tally,
-}
-
 // One record.
-fn record(t: Tally, pool: &[f64], bytes: &mut [u8], numbers: &mut [f64]) -> Step
+fn record(t: Tally, mode: u8, pool: &[f64], bytes: &mut [u8], numbers: &mut [f64]) -> Tally
     requires { ⌜ (37 * 400 ≤ length (now pool)) × (4096 ≤ length (now bytes)) × (43650 ≤ length (now numbers)) ⌝ }
 {
-    let mut mode = [0u8; 1];
-    if !replay::next(&mut mode) {
-        return Step {
-            more: false,
-            tally: t,
-        };
-    }
     let s = read_sizes();
     read_input(s, pool, bytes, numbers);
-    let p = read_scalars(mode[0]);
-    let tally = lend(t, s, p, bytes, numbers);
-    Step { more: true, tally }
+    let p = read_scalars(mode);
+    lend(t, s, p, bytes, numbers)
 }
 
 // How often each question refused. A single step isn't asked question 6, about the options.
@@ -611,14 +578,14 @@ fn records(pool: &[f64], bytes: &mut [u8], numbers: &mut [f64]) -> Tally
         robust: 0,
         different: 0,
     };
-    let mut more = true;
+    let mut head = replay::head();
     let mut turns = u64::MAX;
-    while turns > 0 && more {
-        let s = record(t, pool, bytes, numbers);
-        t = s.tally;
-        more = s.more;
+    while turns > 0 && head.more {
+        t = record(t, head.first, pool, bytes, numbers);
+        head = replay::head();
         turns -= 1;
     }
+    t.different = replay::ended(t.different, head);
     t
 }
 
@@ -626,7 +593,7 @@ fn records(pool: &[f64], bytes: &mut [u8], numbers: &mut [f64]) -> Tally
 fn run(pool: &mut [f64], bytes: &mut [u8], numbers: &mut [f64]) -> Tally
     requires { ⌜ (37 * 400 ≤ length (now pool)) × (4096 ≤ length (now bytes)) × (43650 ≤ length (now numbers)) ⌝ }
 {
-    let n = small(400);
+    let n = replay::small(400);
     read_numbers(pool, 0, 37 * n);
     records(pool, bytes, numbers)
 }

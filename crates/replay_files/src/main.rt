@@ -151,69 +151,34 @@ fn read_base(file: &mut [u8], x: usize)
     clear(&mut file[x..x + 64]);
 }
 
-// The head of a record.
-struct Head {
-    given: bool,
-    kind: u8,
-    x: usize,
-}
-
-fn read_head() -> Head {
-    let mut head = [0u8; 5];
-    let given = replay::next(&mut head);
-    let low = little_endian::u16_at(&head, 1) as usize;
-    let high = little_endian::u16_at(&head, 3) as usize;
-    Head {
-        given,
-        kind: head[0],
-        x: low + 65536 * high,
-    }
-}
-
 // The base has n bytes from now on.
 struct Step {
-    more: bool,
     n: usize,
     tally: Tally,
 }
 
-// One record over a base of n bytes; the input ends where there is no head, or no file that the oracle writes.
-fn record(t: Tally, file: &mut [u8], n: usize) -> Step
+// One record over a base of n bytes.
+fn record(t: Tally, kind: u8, file: &mut [u8], n: usize) -> Step
     requires { ⌜ (length (now file) ≡ 40064) × (n ≤ 40000) ⌝ }
     ensures { λ r. ⌜ r .n ≤ 40000 ⌝ }
 {
-    let head = read_head();
-    let x = head.x;
-    let over = Step {
-        more: false,
-        n,
-        tally: t,
-    };
-    if !head.given {
-        return over;
-    }
-    if 40000 < x {
-        return over;
-    }
-    if head.kind == 0 {
+    let x = replay::large(40000);
+    if kind == 0 {
         read_base(file, x);
         let tally = list(t, &file[..x]);
-        return Step {
-            more: true,
-            n: x,
-            tally,
-        };
+        return Step { n: x, tally };
     }
-    let end = size(head.kind, n, x);
+    if 4 < kind {
+        replay::abandon();
+        return Step { n, tally: t };
+    }
+    let end = size(kind, n, x);
     if 40064 < end {
-        return over;
+        replay::abandon();
+        return Step { n, tally: t };
     }
-    let tally = changed(t, file, end, x, changes(head.kind));
-    Step {
-        more: true,
-        n,
-        tally,
-    }
+    let tally = changed(t, file, end, x, changes(kind));
+    Step { n, tally }
 }
 
 // Each question that refused.
@@ -244,15 +209,16 @@ fn records(file: &mut [u8]) -> Tally
         different: 0,
     };
     let mut n = 0usize;
-    let mut more = true;
+    let mut head = replay::head();
     let mut turns = u64::MAX;
-    while turns > 0 && more {
-        let s = record(t, file, n);
+    while turns > 0 && head.more {
+        let s = record(t, head.first, file, n);
         t = s.tally;
         n = s.n;
-        more = s.more;
+        head = replay::head();
         turns -= 1;
     }
+    t.different = replay::ended(t.different, head);
     t
 }
 

@@ -61,13 +61,14 @@ fn read_sheet(sheet: &mut [f64], l: usize)
     }
 }
 
-// One name of a block.
+// One name of a block. A slot has at most 32 bytes.
 fn answer(t: Tally, names: &[u8], j: usize, sheet: &[f64], p: Place) -> Tally
     requires { ⌜ 33 * j + 33 ≤ length (now names) ⌝ }
 {
     let a = 33 * j;
     let n = replay::wide(names[a]);
     if 32 < n {
+        replay::abandon();
         return t;
     }
     let ours = terms::jacobian(
@@ -91,23 +92,11 @@ fn answers(t: Tally, names: &[u8], k: usize, sheet: &[f64], p: Place) -> Tally
     t
 }
 
-struct Step {
-    more: bool,
-    tally: Tally,
-}
-
 // One block: a sheet of l numbers, the latitude, the pier code, and every name's answer.
-fn block(mut t: Tally, names: &[u8], k: usize, sheet: &mut [f64]) -> Step
+fn block(mut t: Tally, l: u8, names: &[u8], k: usize, sheet: &mut [f64]) -> Tally
     requires { ⌜ (33 * k ≤ length (now names)) × (256 ≤ length (now sheet)) ⌝ }
 {
-    let mut head = [0u8; 1];
-    if !replay::next(&mut head) {
-        return Step {
-            more: false,
-            tally: t,
-        };
-    }
-    let l = replay::wide(head[0]);
+    let l = replay::wide(l);
     read_sheet(sheet, l);
     let sin_lat = replay::double();
     let cos_lat = replay::double();
@@ -118,8 +107,7 @@ fn block(mut t: Tally, names: &[u8], k: usize, sheet: &mut [f64]) -> Step
         cos_lat,
         pier,
     };
-    let tally = answers(t, names, k, &sheet[..l], p);
-    Step { more: true, tally }
+    answers(t, names, k, &sheet[..l], p)
 }
 
 fn report(t: Tally) {
@@ -147,14 +135,14 @@ fn blocks(names: &[u8], k: usize, sheet: &mut [f64])
         not_numbers: 0,
         different: 0,
     };
-    let mut more = true;
+    let mut head = replay::head();
     let mut turns = u64::MAX;
-    while turns > 0 && more {
-        let s = block(t, names, k, sheet);
-        t = s.tally;
-        more = s.more;
+    while turns > 0 && head.more {
+        t = block(t, head.first, names, k, sheet);
+        head = replay::head();
         turns -= 1;
     }
+    t.different = replay::ended(t.different, head);
     report(t);
 }
 
@@ -176,10 +164,6 @@ fn run(names: &mut [u8], k: usize, sheet: &mut [f64])
 fn main() {
     let mut names = io::large_buffer();
     let mut sheet = sheet_room();
-    let mut head = [0u8; 2];
-    replay::next(&mut head);
-    let k = little_endian::u16_at(&head, 0) as usize;
-    if k <= 200 {
-        run(&mut names, k, &mut sheet);
-    }
+    let k = replay::small(200);
+    run(&mut names, k, &mut sheet);
 }

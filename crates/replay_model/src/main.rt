@@ -2,7 +2,7 @@
 // (oracle/README.md has the format); the counts and the number of answers that differ are written out.
 
 ghost use mathlib.Core.Path.{_≡_};
-ghost use Prim.Native.Nat.{_≤_, _<_};
+ghost use Prim.Native.Nat.{_≤_};
 ghost use lib.ListN.{length};
 use model::Breakdown;
 use model::Changed;
@@ -20,7 +20,6 @@ struct Tally {
 
 // The current model and the counts.
 struct Step {
-    more: bool,
     tally: Tally,
     model: PointingModel,
 }
@@ -30,17 +29,6 @@ struct Place {
     sin_lat: f64,
     cos_lat: f64,
     pier: u8,
-}
-
-// Two bytes of standard input.
-fn pair() -> usize
-    ensures { λ r. ⌜ r < 65536 ⌝ }
-{
-    let mut b = [0u8; 2];
-    replay::next(&mut b);
-    let low = replay::wide(b[0]);
-    let high = replay::wide(b[1]);
-    low + 256 * high
 }
 
 // The next l doubles of standard input, into the front of numbers.
@@ -116,7 +104,6 @@ fn changed(t: Tally, r: Changed) -> Step {
     let same = same_model(m);
     let tally = count(t, r.refusal, same_refusal && same);
     Step {
-        more: true,
         tally: tally,
         model: m,
     }
@@ -199,7 +186,7 @@ fn at_point(t: Tally, m: PointingModel, sheet: &[f64], p: Place, op: u8) -> Tall
 // The same with l numbers from sheet a on.
 fn point(t: Tally, m: PointingModel, sheets: &[f64], op: u8) -> Tally {
     let l = replay::wide(replay::byte());
-    let from = 37 * pair();
+    let from = 37 * replay::small(65535);
     let sin_lat = replay::double();
     let cos_lat = replay::double();
     let pier = replay::byte();
@@ -219,7 +206,7 @@ fn by_hand() -> PointingModel {
     let m = PointingModel::new();
     let mut names = m.names;
     let mut coefficients = m.coefficients;
-    let count = pair();
+    let count = replay::small(65535);
     replay::next(&mut names);
     read_numbers(&mut coefficients, 32);
     PointingModel {
@@ -254,28 +241,17 @@ fn call(t: Tally, m: PointingModel, sheets: &[f64], op: u8) -> Step {
         tally.different = replay::more(tally.different);
     }
     Step {
-        more: true,
         tally: tally,
         model: m,
     }
 }
 
 // One record: a new model (0), one made by hand (5), or a call.
-fn record(mut t: Tally, m: PointingModel, sheets: &[f64]) -> Step {
-    let mut head = [0u8; 1];
-    if !replay::next(&mut head) {
-        return Step {
-            more: false,
-            tally: t,
-            model: m,
-        };
-    }
-    let op = head[0];
+fn record(mut t: Tally, op: u8, m: PointingModel, sheets: &[f64]) -> Step {
     if op == 0 {
         let fresh = PointingModel::new();
         t.models = replay::more(t.models);
         return Step {
-            more: true,
             tally: t,
             model: fresh,
         };
@@ -284,7 +260,6 @@ fn record(mut t: Tally, m: PointingModel, sheets: &[f64]) -> Step {
         let made = by_hand();
         t.models = replay::more(t.models);
         return Step {
-            more: true,
             tally: t,
             model: made,
         };
@@ -320,15 +295,16 @@ fn records(sheets: &[f64]) {
         different: 0,
     };
     let mut m = PointingModel::new();
-    let mut more = true;
+    let mut head = replay::head();
     let mut turns = u64::MAX;
-    while turns > 0 && more {
-        let s = record(t, m, sheets);
+    while turns > 0 && head.more {
+        let s = record(t, head.first, m, sheets);
         t = s.tally;
         m = s.model;
-        more = s.more;
+        head = replay::head();
         turns -= 1;
     }
+    t.different = replay::ended(t.different, head);
     report(t);
 }
 
@@ -348,8 +324,6 @@ fn sheets_room() -> [f64; 16384]
 
 fn main() {
     let mut sheets = sheets_room();
-    let k = pair();
-    if k <= 400 {
-        run(&mut sheets, k);
-    }
+    let k = replay::small(400);
+    run(&mut sheets, k);
 }

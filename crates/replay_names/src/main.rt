@@ -22,11 +22,6 @@ struct Tally {
     different: u64,
 }
 
-struct Step {
-    more: bool,
-    tally: Tally,
-}
-
 // A kind and TXN's number.
 struct Kind {
     code: u8,
@@ -220,19 +215,10 @@ fn name(t: Tally, slot: &mut [u8], n: usize, k: usize) -> Tally
 }
 
 // One record: n given bytes in a slot of k.
-fn record(t: Tally) -> Step {
-    let mut head = [0u8; 2];
-    if !replay::next(&mut head) {
-        return Step {
-            more: false,
-            tally: t,
-        };
-    }
-    let n = replay::wide(head[0]);
-    let k = replay::wide(head[1]);
+fn record(t: Tally, n: u8) -> Tally {
+    let k = replay::byte();
     let mut slot = [0u8; 256];
-    let tally = name(t, &mut slot, n, k);
-    Step { more: true, tally }
+    name(t, &mut slot, replay::wide(n), replay::wide(k))
 }
 
 fn report(t: Tally) {
@@ -259,14 +245,13 @@ fn main() {
         short: [0; 3],
         different: 0,
     };
+    let mut head = replay::head();
     let mut turns = u64::MAX;
-    while turns > 0 {
-        let s = record(t);
-        t = s.tally;
-        if !s.more {
-            break;
-        }
+    while turns > 0 && head.more {
+        t = record(t, head.first);
+        head = replay::head();
         turns -= 1;
     }
+    t.different = replay::ended(t.different, head);
     report(t);
 }

@@ -150,35 +150,20 @@ fn solve(t: Tally, head: Head, w: &mut [f64]) -> Tally
     count(t, head, r, held)
 }
 
-struct Step {
-    more: bool,
-    tally: Tally,
-}
-
-// One record; the input ends where there is no head, or no system that the oracle writes.
-fn record(t: Tally, w: &mut [f64]) -> Step
+// One record. The oracle writes no system without a column, or with more than 32.
+fn record(t: Tally, m: u8, w: &mut [f64]) -> Tally
     requires { ⌜ length (now w) ≡ 10496 ⌝ }
 {
-    let mut start = [0u8; 2];
-    let given = replay::next(&mut start);
-    let rows = little_endian::u16_at(&start, 0) as usize;
-    let m = replay::wide(replay::byte());
-    let over = Step {
-        more: false,
-        tally: t,
-    };
-    if !given {
-        return over;
-    }
-    if 256 < rows {
-        return over;
-    }
+    let m = replay::wide(m);
     if m == 0 {
-        return over;
+        replay::abandon();
+        return t;
     }
     if 32 < m {
-        return over;
+        replay::abandon();
+        return t;
     }
+    let rows = replay::small(256);
     let lambda = replay::double();
     let fit_tol = replay::double();
     let head = Head {
@@ -187,8 +172,7 @@ fn record(t: Tally, w: &mut [f64]) -> Step
         lambda,
         fit_tol,
     };
-    let tally = solve(t, head, w);
-    Step { more: true, tally }
+    solve(t, head, w)
 }
 
 fn report(t: Tally) {
@@ -212,14 +196,14 @@ fn records(w: &mut [f64])
         thirty: 0,
         different: 0,
     };
-    let mut more = true;
+    let mut head = replay::head();
     let mut turns = u64::MAX;
-    while turns > 0 && more {
-        let s = record(t, w);
-        t = s.tally;
-        more = s.more;
+    while turns > 0 && head.more {
+        t = record(t, head.first, w);
+        head = replay::head();
         turns -= 1;
     }
+    t.different = replay::ended(t.different, head);
     report(t);
 }
 

@@ -13,6 +13,9 @@ pub mod runs;
 pub mod single_step;
 pub mod solves;
 
+/// Stands behind the last record of each file; no record begins with it.
+const MARK: u8 = 255;
+
 /// What a replay program reads, and what it prints.
 pub struct Vectors {
     pub name: &'static str,
@@ -21,7 +24,7 @@ pub struct Vectors {
 }
 
 pub fn all() -> Vec<Vectors> {
-    vec![
+    let mut all = vec![
         names::vectors(),
         jacobians::vectors(),
         solves::vectors(),
@@ -29,7 +32,11 @@ pub fn all() -> Vec<Vectors> {
         iterated::vectors(),
         model::vectors(),
         files::vectors(),
-    ]
+    ];
+    for vectors in &mut all {
+        vectors.stdin.push(MARK);
+    }
+    all
 }
 
 /// Appends doubles; every NaN as 7ff8000000000000.

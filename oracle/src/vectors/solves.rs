@@ -337,8 +337,8 @@ pub fn vectors() -> Vectors {
     let (mut damped, mut deficient, mut not_numbers, mut thirty) = (0, 0, 0, 0);
     for system in &systems {
         let (rows, m) = (system.a.nrows(), system.a.ncols());
-        stdin.extend((rows as u16).to_le_bytes());
         stdin.push(m as u8);
+        stdin.extend((rows as u16).to_le_bytes());
         put_doubles(&mut stdin, &[system.lambda, system.fit_tol]);
         for j in 0..m {
             for i in 0..rows {

@@ -6,16 +6,22 @@ use Rattle.replay_calls.proofs.records.Statement.{statement}
 use Rattle.replay_calls.proofs.records.Tie as tie
 
 abbrev Inv-loop : tie.InvT-loop
-Inv-loop pool bytes₀ numbers₀ t₀ more₀ turns₀ bytes numbers t more turns = (length bytes ≡ length bytes₀) × (length numbers ≡ length numbers₀)
+Inv-loop pool bytes₀ numbers₀ t₀ head₀ turns₀ bytes numbers t head turns = (length bytes ≡ length bytes₀) × (length numbers ≡ length numbers₀)
 
 abbrev μ-loop : tie.MeasureT-loop
-μ-loop pool bytes₀ numbers₀ t₀ more₀ turns₀ bytes numbers t more turns = turns
+μ-loop pool bytes₀ numbers₀ t₀ head₀ turns₀ bytes numbers t head turns = turns
+
+head-requires : tie.Need-head-requires Inv-loop μ-loop
+head-requires c κs = tt
 
 loop-holds : tie.Need-loop-holds Inv-loop μ-loop
 loop-holds c = (refl, refl)
 
 record-requires : tie.Need-record-requires Inv-loop μ-loop
 record-requires c κs = omega arith
+
+head-requires-2 : tie.Need-head-requires-2 Inv-loop μ-loop
+head-requires-2 c κs = tt
 
 sub-turns : tie.Need-sub-turns Inv-loop μ-loop
 sub-turns c = omega arith
@@ -26,6 +32,9 @@ loop-less c = omega arith
 loop-again : tie.Need-loop-again Inv-loop μ-loop
 loop-again c = omega arith
 
+ended-requires : tie.Need-ended-requires Inv-loop μ-loop
+ended-requires c κs = tt
+
 same-length : tie.Need-same-length Inv-loop μ-loop
 same-length c = omega arith
 
@@ -35,29 +44,20 @@ same-length-2 c = omega arith
 returns : tie.Need-returns Inv-loop μ-loop
 returns c = tt
 
-same-length-3 : tie.Need-same-length-3 Inv-loop μ-loop
-same-length-3 c = omega arith
-
-same-length-4 : tie.Need-same-length-4 Inv-loop μ-loop
-same-length-4 c = omega arith
-
-returns-2 : tie.Need-returns-2 Inv-loop μ-loop
-returns-2 c = tt
-
 pub records-spec : {M : Type 1} → statement M
 records-spec =
     tie.close
     (tie.spec
     Inv-loop
     μ-loop
+    head-requires
     loop-holds
     record-requires
+    head-requires-2
     sub-turns
     loop-less
     loop-again
+    ended-requires
     same-length
     same-length-2
-    returns
-    same-length-3
-    same-length-4
-    returns-2)
+    returns)

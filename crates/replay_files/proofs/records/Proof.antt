@@ -7,16 +7,22 @@ use Rattle.replay_files.proofs.records.Statement.{statement}
 use Rattle.replay_files.proofs.records.Tie as tie
 
 abbrev Inv-loop : tie.InvT-loop
-Inv-loop file₀ t₀ n₀ more₀ turns₀ file t n more turns = (length file ≡ length file₀) × (n ≤ 40000)
+Inv-loop file₀ t₀ n₀ head₀ turns₀ file t n head turns = (length file ≡ length file₀) × (n ≤ 40000)
 
 abbrev μ-loop : tie.MeasureT-loop
-μ-loop file₀ t₀ n₀ more₀ turns₀ file t n more turns = turns
+μ-loop file₀ t₀ n₀ head₀ turns₀ file t n head turns = turns
+
+head-requires : tie.Need-head-requires Inv-loop μ-loop
+head-requires c κs = tt
 
 loop-holds : tie.Need-loop-holds Inv-loop μ-loop
 loop-holds c = (refl, omega arith)
 
 record-requires : tie.Need-record-requires Inv-loop μ-loop
 record-requires c κs = omega arith
+
+head-requires-2 : tie.Need-head-requires-2 Inv-loop μ-loop
+head-requires-2 c κs = tt
 
 sub-turns : tie.Need-sub-turns Inv-loop μ-loop
 sub-turns c = omega arith
@@ -27,17 +33,14 @@ loop-less c = omega arith
 loop-again : tie.Need-loop-again Inv-loop μ-loop
 loop-again c = omega arith
 
+ended-requires : tie.Need-ended-requires Inv-loop μ-loop
+ended-requires c κs = tt
+
 same-length : tie.Need-same-length Inv-loop μ-loop
 same-length c = omega arith
 
 returns : tie.Need-returns Inv-loop μ-loop
 returns c = tt
-
-same-length-2 : tie.Need-same-length-2 Inv-loop μ-loop
-same-length-2 c = omega arith
-
-returns-2 : tie.Need-returns-2 Inv-loop μ-loop
-returns-2 c = tt
 
 pub records-spec : {M : Type 1} → statement M
 records-spec =
@@ -45,12 +48,13 @@ records-spec =
     (tie.spec
     Inv-loop
     μ-loop
+    head-requires
     loop-holds
     record-requires
+    head-requires-2
     sub-turns
     loop-less
     loop-again
+    ended-requires
     same-length
-    returns
-    same-length-2
-    returns-2)
+    returns)

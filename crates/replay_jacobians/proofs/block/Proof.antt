@@ -5,18 +5,6 @@ use borrow.Author.Needs.{needs}
 use Rattle.replay_jacobians.proofs.block.Statement.{statement}
 use Rattle.replay_jacobians.proofs.block.Tie as tie
 
-slice-aggregate-next : tie.Need-slice-aggregate-next
-slice-aggregate-next c = search needs
-
-next-requires : tie.Need-next-requires
-next-requires c κs = search needs
-
-returns : tie.Need-returns
-returns c = search needs
-
-array-read-wide : tie.Need-array-read-wide
-array-read-wide c = search needs
-
 wide-requires : tie.Need-wide-requires
 wide-requires c κs = search needs
 
@@ -47,17 +35,13 @@ answers-requires c κs = search needs
 same-length : tie.Need-same-length
 same-length c = search needs
 
-returns-2 : tie.Need-returns-2
-returns-2 c = search needs
+returns : tie.Need-returns
+returns c = search needs
 
 pub block-spec : {M : Type 1} → statement M
 block-spec =
     tie.close
     (tie.spec
-    slice-aggregate-next
-    next-requires
-    returns
-    array-read-wide
     wide-requires
     read-sheet-requires
     double-requires
@@ -68,4 +52,4 @@ block-spec =
     slice-aggregate-answers
     answers-requires
     same-length
-    returns-2)
+    returns)

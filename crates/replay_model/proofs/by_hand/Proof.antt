@@ -9,8 +9,8 @@ use Rattle.replay_model.proofs.by_hand.Tie as tie
 new-requires : tie.Need-new-requires
 new-requires c κs = search needs
 
-pair-requires : tie.Need-pair-requires
-pair-requires c κs = search needs
+small-requires : tie.Need-small-requires
+small-requires c κs = search needs
 
 slice-aggregate-next : tie.Need-slice-aggregate-next
 slice-aggregate-next c = search needs
@@ -34,7 +34,7 @@ by-hand-spec =
     tie.close
     (tie.spec
     new-requires
-    pair-requires
+    small-requires
     slice-aggregate-next
     next-requires
     slice-aggregate-read-numbers

@@ -4,16 +4,22 @@ use Rattle.replay_names.proofs.main.Statement.{statement}
 use Rattle.replay_names.proofs.main.Tie as tie
 
 abbrev Inv-loop : tie.InvT-loop
-Inv-loop t₀ turns₀ t turns = Unit {0}
+Inv-loop t₀ head₀ turns₀ t head turns = Unit {0}
 
 abbrev μ-loop : tie.MeasureT-loop
-μ-loop t₀ turns₀ t turns = turns
+μ-loop t₀ head₀ turns₀ t head turns = turns
+
+head-requires : tie.Need-head-requires Inv-loop μ-loop
+head-requires c κs = tt
 
 loop-holds : tie.Need-loop-holds Inv-loop μ-loop
 loop-holds c = tt
 
 record-requires : tie.Need-record-requires Inv-loop μ-loop
 record-requires c κs = tt
+
+head-requires-2 : tie.Need-head-requires-2 Inv-loop μ-loop
+head-requires-2 c κs = tt
 
 sub-turns : tie.Need-sub-turns Inv-loop μ-loop
 sub-turns c = omega arith
@@ -23,6 +29,9 @@ loop-less c = omega arith
 
 loop-again : tie.Need-loop-again Inv-loop μ-loop
 loop-again c = tt
+
+ended-requires : tie.Need-ended-requires Inv-loop μ-loop
+ended-requires c κs = tt
 
 report-requires : tie.Need-report-requires Inv-loop μ-loop
 report-requires c κs = tt
@@ -36,10 +45,13 @@ main-spec =
     (tie.spec
     Inv-loop
     μ-loop
+    head-requires
     loop-holds
     record-requires
+    head-requires-2
     sub-turns
     loop-less
     loop-again
+    ended-requires
     report-requires
     returns)

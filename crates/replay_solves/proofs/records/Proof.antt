@@ -6,16 +6,22 @@ use Rattle.replay_solves.proofs.records.Statement.{statement}
 use Rattle.replay_solves.proofs.records.Tie as tie
 
 abbrev Inv-loop : tie.InvT-loop
-Inv-loop w₀ t₀ more₀ turns₀ w t more turns = length w ≡ length w₀
+Inv-loop w₀ t₀ head₀ turns₀ w t head turns = length w ≡ length w₀
 
 abbrev μ-loop : tie.MeasureT-loop
-μ-loop w₀ t₀ more₀ turns₀ w t more turns = turns
+μ-loop w₀ t₀ head₀ turns₀ w t head turns = turns
+
+head-requires : tie.Need-head-requires Inv-loop μ-loop
+head-requires c κs = tt
 
 loop-holds : tie.Need-loop-holds Inv-loop μ-loop
 loop-holds c = refl
 
 record-requires : tie.Need-record-requires Inv-loop μ-loop
 record-requires c κs = omega arith
+
+head-requires-2 : tie.Need-head-requires-2 Inv-loop μ-loop
+head-requires-2 c κs = tt
 
 sub-turns : tie.Need-sub-turns Inv-loop μ-loop
 sub-turns c = omega arith
@@ -25,6 +31,9 @@ loop-less c = omega arith
 
 loop-again : tie.Need-loop-again Inv-loop μ-loop
 loop-again c = omega arith
+
+ended-requires : tie.Need-ended-requires Inv-loop μ-loop
+ended-requires c κs = tt
 
 report-requires : tie.Need-report-requires Inv-loop μ-loop
 report-requires c κs = tt
@@ -41,11 +50,14 @@ records-spec =
     (tie.spec
     Inv-loop
     μ-loop
+    head-requires
     loop-holds
     record-requires
+    head-requires-2
     sub-turns
     loop-less
     loop-again
+    ended-requires
     report-requires
     same-length
     returns)
