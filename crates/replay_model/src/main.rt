@@ -40,47 +40,53 @@ fn read_numbers(numbers: &mut [f64], l: usize)
     }
 }
 
-// Whether the oracle's next bytes are these.
-fn same_names(names: &[u8]) -> bool {
+// Whether the first n bytes of the names are the oracle's next ones, and the others those of the model before.
+fn same_names(names: [u8; 512], n: usize, before: [u8; 512]) -> bool {
     let mut same = true;
-    for i in 0..names.len() {
-        if replay::byte() != names[i] {
+    for i in 0..512usize {
+        let mut due = before[i];
+        if i < n {
+            due = replay::byte();
+        }
+        if names[i] != due {
             same = false;
         }
     }
     same
 }
 
-// Whether the oracle's next doubles are these.
-fn same_numbers(numbers: &[f64]) -> bool {
+// Whether the first n numbers are the oracle's next ones, and the others those of the model before.
+fn same_numbers(numbers: [f64; 32], n: usize, before: [f64; 32]) -> bool {
     let mut same = true;
-    for i in 0..numbers.len() {
-        if !replay::same_double(numbers[i]) {
+    for i in 0..32usize {
+        let mut due = before[i];
+        if i < n {
+            due = replay::double();
+        }
+        if !replay::same_bits(numbers[i], due) {
             same = false;
         }
     }
     same
 }
 
-// A count as the oracle writes it.
-fn written(count: usize) -> usize {
-    if 255 < count { 255 } else { count }
+// How many of a model's 32 places its count takes.
+fn places(count: usize) -> usize
+    ensures { λ r. ⌜ r ≤ 32 ⌝ }
+{
+    if 32 < count { 32 } else { count }
 }
 
-// Whether the oracle's next model is this one.
-fn same_model(m: PointingModel) -> bool {
+// Whether the oracle's next model is this one: what it writes, and behind the count what the model before the call held.
+fn same_model(before: PointingModel, m: PointingModel) -> bool {
+    let n = places(m.count);
     let names = m.names;
+    let names_before = before.names;
     let coefficients = m.coefficients;
-    let count = m.count;
-    let same_count = replay::wide(replay::byte()) == written(count);
-    if 32 < count {
-        let all = same_names(&names);
-        let all_too = same_numbers(&coefficients);
-        return same_count && all && all_too;
-    }
-    let n = 16 * count;
-    let same = same_names(&names[..n]);
-    let same_too = same_numbers(&coefficients[..count]);
+    let coefficients_before = before.coefficients;
+    let same_count = replay::small(65535) == m.count;
+    let same = same_names(names, 16 * n, names_before);
+    let same_too = same_numbers(coefficients, n, coefficients_before);
     same_count && same && same_too
 }
 
@@ -98,10 +104,10 @@ fn count(mut t: Tally, refusal: u8, same: bool) -> Tally {
 }
 
 // A changed model, held against the oracle's.
-fn changed(t: Tally, r: Changed) -> Step {
+fn changed(t: Tally, before: PointingModel, r: Changed) -> Step {
     let m = r.model;
     let same_refusal = replay::byte() == r.refusal;
-    let same = same_model(m);
+    let same = same_model(before, m);
     let tally = count(t, r.refusal, same_refusal && same);
     Step {
         tally: tally,
@@ -124,7 +130,7 @@ fn add(mut t: Tally, m: PointingModel, slot: &mut [u8], k: usize) -> Step
             t.equal = replay::more(t.equal);
         }
     }
-    changed(t, r)
+    changed(t, m, r)
 }
 
 // A call of `set_coefficients` with the next c doubles.
@@ -133,7 +139,7 @@ fn set(t: Tally, m: PointingModel, numbers: &mut [f64], c: usize) -> Step
 {
     read_numbers(numbers, c);
     let r = m.set_coefficients(&numbers[..c]);
-    changed(t, r)
+    changed(t, m, r)
 }
 
 // A correction, held against the oracle's.
@@ -152,26 +158,32 @@ fn corrected(t: Tally, ours: Correction) -> Tally {
     }
 }
 
-// A breakdown of a model of n terms, held against the oracle's.
+// Whether the first n contributions are the oracle's next pairs, and the others 0.
+fn same_pairs(dh: [f64; 32], dd: [f64; 32], n: usize) -> bool {
+    let mut same = true;
+    for i in 0..32usize {
+        let mut h = 0.0;
+        let mut d = 0.0;
+        if i < n {
+            h = replay::double();
+            d = replay::double();
+        }
+        let same_h = replay::same_bits(dh[i], h);
+        let same_d = replay::same_bits(dd[i], d);
+        same = same && same_h && same_d;
+    }
+    same
+}
+
+// A breakdown of a model of n terms, held against the oracle's; a refused one has no contributions.
 fn broken_down(t: Tally, ours: Breakdown, n: usize) -> Tally {
     let refusal = ours.refusal;
     let dh = ours.dh;
     let dd = ours.dd;
-    let mut same = replay::byte() == refusal;
-    if refusal != 0 {
-        return count(t, refusal, same);
-    }
-    for i in 0..32usize {
-        if i < n {
-            if !replay::same_double(dh[i]) {
-                same = false;
-            }
-            if !replay::same_double(dd[i]) {
-                same = false;
-            }
-        }
-    }
-    count(t, 0, same)
+    let same_refusal = replay::byte() == refusal;
+    let given = if refusal == 0 { n } else { 0 };
+    let same = same_pairs(dh, dd, given);
+    count(t, refusal, same_refusal && same)
 }
 
 // A call of `apply_equatorial` or, at code 4, of `predict_breakdown`.

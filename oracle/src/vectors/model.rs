@@ -29,6 +29,13 @@ struct Place {
     pier: u8,
 }
 
+/// Whether a call kept what lies behind the count of the model that it gave.
+fn kept_behind(before: &Model, after: &Model) -> bool {
+    let bits = |model: &Model| model.coefficients.map(f64::to_bits);
+    before.names[after.count..] == after.names[after.count..]
+        && bits(before)[after.count..] == bits(after)[after.count..]
+}
+
 impl Calls {
     fn new_model(&mut self) {
         self.stdin.push(0);
@@ -55,10 +62,11 @@ impl Calls {
     fn put_model(&mut self, answer: Result<Model, u8>) {
         self.answer(answer.as_ref().err().copied().unwrap_or(0));
         if let Ok(model) = answer {
+            assert!(kept_behind(&self.model, &model));
             self.model = model;
         }
         let places = self.model.count.min(MAX_TERMS);
-        self.stdin.push(self.model.count.min(255) as u8);
+        self.stdin.extend((self.model.count as u16).to_le_bytes());
         let names = &self.model.names[..places];
         self.stdin.extend(names.as_flattened());
         put_doubles(&mut self.stdin, &self.model.coefficients[..places]);

@@ -1,25 +1,26 @@
 -- `same_names` is safe and ends. Assumes nothing.
 use Prim.Native.Nat.{_≤_, _-_}
-use mathlib.Core.Path.{_≡_, refl}
-use lib.ListN.{length}
 use native.Mathlib.Omega.{arith}
 use Rattle.replay_model.proofs.same_names.Statement.{statement}
 use Rattle.replay_model.proofs.same_names.Tie as tie
 
 abbrev Inv-loop : tie.InvT-loop
-Inv-loop names same₀ i₀ i-end same i = (i ≤ i-end) × (i-end ≡ length names)
+Inv-loop n names before same₀ i₀ same i = i ≤ 512
 
 abbrev μ-loop : tie.MeasureT-loop
-μ-loop names same₀ i₀ i-end same i = i-end - i
+μ-loop n names before same₀ i₀ same i = 512 - i
 
 loop-holds : tie.Need-loop-holds Inv-loop μ-loop
-loop-holds c = (omega arith, refl)
+loop-holds c = omega arith
+
+array-read-due : tie.Need-array-read-due Inv-loop μ-loop
+array-read-due c = omega arith
 
 byte-requires : tie.Need-byte-requires Inv-loop μ-loop
 byte-requires c κs = tt
 
-shared-slice-read-if1 : tie.Need-shared-slice-read-if1 Inv-loop μ-loop
-shared-slice-read-if1 c = omega arith
+array-read-if2 : tie.Need-array-read-if2 Inv-loop μ-loop
+array-read-if2 c = omega arith
 
 add-i : tie.Need-add-i Inv-loop μ-loop
 add-i c = omega arith
@@ -40,8 +41,9 @@ same-names-spec =
     Inv-loop
     μ-loop
     loop-holds
+    array-read-due
     byte-requires
-    shared-slice-read-if1
+    array-read-if2
     add-i
     loop-less
     loop-again

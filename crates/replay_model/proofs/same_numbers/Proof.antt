@@ -1,28 +1,35 @@
 -- `same_numbers` is safe and ends. Assumes nothing.
 use Prim.Native.Nat.{_≤_, _-_}
-use mathlib.Core.Path.{_≡_, refl}
-use lib.ListN.{length}
 use native.Mathlib.Omega.{arith}
 use Rattle.replay_model.proofs.same_numbers.Statement.{statement}
 use Rattle.replay_model.proofs.same_numbers.Tie as tie
 
 abbrev Inv-loop : tie.InvT-loop
-Inv-loop numbers same₀ i₀ i-end same i = (i ≤ i-end) × (i-end ≡ length numbers)
+Inv-loop n numbers before same₀ i₀ same i = i ≤ 32
 
 abbrev μ-loop : tie.MeasureT-loop
-μ-loop numbers same₀ i₀ i-end same i = i-end - i
+μ-loop n numbers before same₀ i₀ same i = 32 - i
 
 loop-holds : tie.Need-loop-holds Inv-loop μ-loop
-loop-holds c = (omega arith, refl)
+loop-holds c = omega arith
 
-mul-same-double : tie.Need-mul-same-double Inv-loop μ-loop
-mul-same-double c = omega arith
+mul-due : tie.Need-mul-due Inv-loop μ-loop
+mul-due c = omega arith
 
-shared-slice-read-same-double : tie.Need-shared-slice-read-same-double Inv-loop μ-loop
-shared-slice-read-same-double c = omega arith
+array-read-due : tie.Need-array-read-due Inv-loop μ-loop
+array-read-due c = omega arith
 
-same-double-requires : tie.Need-same-double-requires Inv-loop μ-loop
-same-double-requires c κs = tt
+double-requires : tie.Need-double-requires Inv-loop μ-loop
+double-requires c κs = tt
+
+mul-same-bits : tie.Need-mul-same-bits Inv-loop μ-loop
+mul-same-bits c = omega arith
+
+array-read-same-bits : tie.Need-array-read-same-bits Inv-loop μ-loop
+array-read-same-bits c = omega arith
+
+same-bits-requires : tie.Need-same-bits-requires Inv-loop μ-loop
+same-bits-requires c κs = tt
 
 add-i : tie.Need-add-i Inv-loop μ-loop
 add-i c = omega arith
@@ -43,9 +50,12 @@ same-numbers-spec =
     Inv-loop
     μ-loop
     loop-holds
-    mul-same-double
-    shared-slice-read-same-double
-    same-double-requires
+    mul-due
+    array-read-due
+    double-requires
+    mul-same-bits
+    array-read-same-bits
+    same-bits-requires
     add-i
     loop-less
     loop-again
