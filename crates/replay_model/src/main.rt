@@ -90,6 +90,15 @@ fn same_model(before: PointingModel, m: PointingModel) -> bool {
     same_count && same && same_too
 }
 
+// Whether a new model has no term, and zeros in all its places.
+fn is_empty(m: PointingModel) -> bool {
+    let names = m.names;
+    let coefficients = m.coefficients;
+    let no_names = same_names(names, 0, [0u8; 512]);
+    let no_numbers = same_numbers(coefficients, 0, [0.0; 32]);
+    m.count == 0 && no_names && no_numbers
+}
+
 // Counts a call that gave a number of a question, or 0.
 fn count(mut t: Tally, refusal: u8, same: bool) -> Tally {
     t.calls = replay::more(t.calls);
@@ -263,6 +272,9 @@ fn record(mut t: Tally, op: u8, m: PointingModel, sheets: &[f64]) -> Step {
     if op == 0 {
         let fresh = PointingModel::new();
         t.models = replay::more(t.models);
+        if !is_empty(fresh) {
+            t.different = replay::more(t.different);
+        }
         return Step {
             tally: t,
             model: fresh,
