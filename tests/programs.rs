@@ -13,6 +13,8 @@ const LONGEST: usize = 31_775;
 /// Where in a file the number of its terms and its mode stand.
 const TERMS: usize = 5;
 const MODE: usize = 6;
+/// Stands behind the last record of replay_files.
+const MARK: u8 = 255;
 /// Differences that are printed; all are counted.
 const SHOWN: usize = 10;
 const MB: usize = 1 << 20;
@@ -170,8 +172,11 @@ fn records(stored: &[u8]) -> Option<Vec<(Vec<u8>, Vec<u8>)>> {
         *left = &left[count..];
         Some(taken)
     };
-    while !left.is_empty() {
+    loop {
         let kind = take(1, &mut left)?[0];
+        if kind == MARK {
+            return left.is_empty().then_some(files);
+        }
         let x = u32::from_le_bytes(take(4, &mut left)?.try_into().ok()?) as usize;
         let mut file: Vec<u8> = base.clone();
         match kind {
@@ -188,7 +193,6 @@ fn records(stored: &[u8]) -> Option<Vec<(Vec<u8>, Vec<u8>)>> {
         let length = u16::from_le_bytes(take(2, &mut left)?.try_into().ok()?);
         files.push((file, take(usize::from(length), &mut left)?));
     }
-    Some(files)
 }
 
 /// The files of replay_files, as many as its `stdout` counts.
