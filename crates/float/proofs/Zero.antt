@@ -9,13 +9,17 @@ use lib.IntN.{ℤ, pos}
 use lib.Dec.{eqb}
 use lib.Ieee.{Float, nan, inf, fin, up, down, lt, eq, div, ofBits}
 use lib.Ieee.Fits.{up-pos}
-use Rattle.float.specs.Float.{#0, #1, _⊘_}
+use Rattle.float.specs.Float.{#0, #1, _⊘_, isFinite}
 
 -- ---- the numbers that the code writes out
 
 pub zero-is : #0 ≡ fin false 0 (pos 0)
 unfolding ofBits
 zero-is = refl
+
+pub zero-finite : isFinite #0 ≡ true
+unfolding isFinite ofBits
+zero-finite = refl
 
 pub infinity-is : #1 ⊘ #0 ≡ inf false
 unfolding div ofBits

@@ -12,7 +12,7 @@ use lib.Seq.{getD-at, take-all}
 use lib.Ieee.{Float, nan, binary64, fits, sub, lt, le}
 use lib.Ieee.Fits.{nan-fits, mul-fits, sub-fits}
 use Rattle.sequence.specs.Sequence.{at, table}
-use Rattle.sequence.proofs.Fills.{table-length, take-filled, table-front}
+use Rattle.sequence.proofs.Fills.{table-length, at-table, take-filled, table-front}
 use Rattle.best.specs.ChiSquare.{chi, AtMost}
 use Rattle.best.specs.Trials.{proposed, answer, Keeps}
 use Rattle.best.proofs.Best.{answer-listed}
@@ -44,18 +44,6 @@ unfolding residuals
 made l i = (mul-fits binary64 _ _, differences-fit _ _ (2 * i + 1))
 
 -- ---- a step keeps the length of a set and its fixed terms
-
-module _ (f : ℕ → Float) where
-  at-longer : (k j : ℕ) → at (table (k + suc j) f) j ≡ f j
-  unfolding table
-  at-longer zero j = rw (zero-add (suc j)) (getD-at (table j f) (f j) [] nan j (table-length f j))
-  at-longer (suc k) j =
-      rw (suc-add k (suc j)) (List·getD-append (table (k + suc j) f) (f (k + suc j) ∷ []) nan j (omega (arith, table-length f (k + suc j))) ∙ at-longer k j)
-
-  at-table : (n j : ℕ) → j < n → at (table n f) j ≡ f j
-  at-table n j h =
-      let e : n ≡ (n - suc j) + suc j = omega arith in
-      ap (λ (k : ℕ). at (table k f) j) e ∙ at-longer (n - suc j) j
 
 -- s has the length and the fixed terms of the start
 pub record Kept (l : Lent) (s : List Float) : Type 0 where

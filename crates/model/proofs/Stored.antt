@@ -11,7 +11,7 @@ use lib.Dec.{eqb, ltb, leb}
 use lib.ListN.{length, getD, drop, replicate, length-map, length-append, length-replicate}
 use lib.Seq.{drop-at}
 use Rattle.sequence.specs.Sequence.{every}
-use Rattle.terms.proofs.Both.{left-of, right-of}
+use Rattle.sequence.proofs.Tests.{left-of, right-of}
 use Rattle.harmonic.specs.Table.{ascii}
 use Rattle.harmonic.specs.Harmonic.{arrayOf, parseHarmonic}
 use Rattle.harmonic.specs.declared.HarmonicRead.{HarmonicRead}
@@ -21,7 +21,7 @@ use Rattle.terms.specs.declared.Reading.{Reading}
 use Rattle.terms.specs.declared.TermKind.{TermKind}
 use Rattle.terms.specs.declared.names.Known.{Known}
 use Rattle.terms.specs.declared.names.Known.the-variants.{Equatorial, AltAz, Other}
-use Rattle.model.proofs.Lists.{last-or}
+use Rattle.sequence.proofs.Fills.{last-or}
 
 -- ---- capitals
 

@@ -3,29 +3,34 @@
 use Prim.Native.Nat.{ℕ, _+_, _*_, _<_}
 use native.Mathlib.Numerals.{add-one}
 use native.Mathlib.Omega.{arith}
-use mathlib.Core.Path.{_≡_, refl, sym, _∙_, ap, ap₂, subst}
+use mathlib.Core.Path.{_≡_, refl, sym, _∙_, ap, ap₂}
 use mathlib.Core.Bool.{Bool, true, false, cond, _||_}
 use mathlib.Core.List.{List, [], _∷_}
 use borrow.Author.Tests.{eqb-true, eqb-false, eq-eqb, ltb-true}
 use lib.Dec.{eqb, ltb}
 use lib.ListN.{length, take, set}
-use lib.Seq.{take-suc-set, length-take-le, length-sets, sets}
+use lib.Seq.{take-all, take-suc-set, length-take-le, length-sets, sets}
 use lib.Ieee.{Float}
 use Rattle.float.specs.Float.{#0, isFinite}
 use Rattle.sequence.specs.Sequence.{every, at, filled, sumTo}
 use Rattle.observation.specs.Observation.{pairOf}
-use Rattle.sequence.proofs.Parts.{part-sets-same, part-sets-below}
+use Rattle.float.proofs.Zero.{zero-finite}
+use Rattle.sequence.proofs.Tests.{every-snoc}
+use Rattle.sequence.proofs.Parts.{part-take, part-sets-same, part-sets-below}
+use Rattle.sequence.proofs.Fills.{at-filled, take-filled, table-front}
+use Rattle.sequence.proofs.Sums.{sum-same}
 use Rattle.terms.specs.Names.{same, readTerm}
 use Rattle.terms.specs.Questions.{firstNo}
-use Rattle.model.specs.Slots.{slot, noNumbers, firstOf, namesRefusal, hasName}
+use Rattle.terms.specs.Slots.{slot, firstOf, namesRefusal}
+use Rattle.terms.proofs.First.{first-step, first-same}
+use Rattle.model.specs.Slots.{noNumbers, hasName}
 use Rattle.model.specs.Model.{newModel, asked, refusalOf, termNames, termCoefficients, modelRefusal, changed, withTerm, addTerm, setCoefficients}
 use Rattle.model.specs.Correction.{pointRefusal, corrected, correctionAt, correction, noBreakdown, brokenDown, breakdownAt}
 use Rattle.model.specs.declared.PointingModel.{PointingModel}
 use Rattle.model.specs.declared.Breakdown.{Breakdown}
 use Rattle.model.specs.declared.Changed.{Changed}
 use Rattle.model.specs.declared.Correction.the-variants.{Given}
-use Rattle.model.proofs.Laws.{Passed, passed, passes, first-step, first-same, some-last, some-stop, same-itself}
-use Rattle.model.proofs.Lists.{at-filled, front-filled, sum-same, every-snoc, zero-finite, part-take}
+use Rattle.model.proofs.Laws.{Passed, passed, passes, some-last, some-stop, same-itself}
 use Rattle.model.proofs.Stored.{read-stored}
 
 -- ---- a model that passes every question
@@ -100,7 +105,7 @@ module _ (m : PointingModel) (cs : List Float) (accepted : setCoefficients m cs 
   front : take (m .count) (filled (m .count) (at cs) (m .coefficients)) ≡ cs
   front =
       let one-each = eqb-true (length cs) (m .count) (set-facts .rest-counted) in
-      subst (λ (n : ℕ). take n (filled n (at cs) (m .coefficients)) ≡ cs) one-each (front-filled cs (m .coefficients))
+      take-filled (at cs) (m .count) (m .coefficients) ∙ table-front (m .count) cs (omega (arith, one-each)) ∙ take-all (m .count) cs (omega (arith, one-each))
 
   pub set-passes : Passes (setCoefficients m cs .model)
   unfolding new-model

@@ -3,7 +3,6 @@
 ghost use mathlib.Core.Path.{_≡_};
 ghost use lib.ListN.{length};
 ghost use Rattle.model.specs.Model.{refusalOf};
-use crate::slots::names_refusal;
 
 // Whether what else a call takes has its length (2), its numbers are finite (4) and its code is known (5) is given. The number of the first
 // no, or 0.
@@ -35,5 +34,5 @@ pub fn refusal_of(
     if !known {
         return 5;
     }
-    names_refusal(names, m)
+    terms::names_refusal(names, m)
 }

@@ -6,7 +6,7 @@ ghost use lib.ListN.{length};
 ghost use lib.Seq.{sets};
 ghost use Rattle.sequence.specs.Sequence.{at, filled};
 ghost use Rattle.terms.specs.Names.{same};
-ghost use Rattle.model.specs.Slots.{noNames, noNumbers, namesRefusal, hasName};
+ghost use Rattle.model.specs.Slots.{noNames, noNumbers, hasName};
 
 pub fn no_names() -> [u8; 512]
     ensures { λ r. ⌜ r ≡ noNames ⌝ }
@@ -18,21 +18,6 @@ pub fn no_numbers() -> [f64; 32]
     ensures { λ r. ⌜ r ≡ noNumbers ⌝ }
 {
     [0.0; 32]
-}
-
-// Questions 7 to 10 of each name, the lowest slot first: the number of the first no, or 0.
-pub fn names_refusal(names: &[u8], count: usize) -> u8
-    requires { ⌜ 16 * count ≤ length (now names) ⌝ }
-    ensures { λ r. ⌜ r ≡ namesRefusal (now (names .entry)) count ⌝ }
-{
-    for i in 0..count {
-        let a = 16 * i;
-        let r = terms::read_term(&names[a..a + 16]);
-        if r.refusal != 0 {
-            return r.refusal;
-        }
-    }
-    0
 }
 
 // Whether two texts of one length are the same.

@@ -1,12 +1,51 @@
--- Loops that test each element in order and stop at the first that fails: what `every` is from an index on. Assumes nothing.
+-- Tests: conjunctions, answers that are negated, and loops that test each element in order and stop at the first that fails. Assumes nothing.
 use Prim.Native.Nat.{ℕ, suc, _+_, _≤_, _<_}
 use native.Mathlib.Numerals.{add-one}
-use mathlib.Core.Path.{_≡_, sym, _∙_, ap}
-use mathlib.Core.Bool.{Bool, true, false, _&&_}
-use mathlib.Core.List.{List}
+use mathlib.Core.Path.{_≡_, refl, sym, _∙_, ap}
+use mathlib.Core.Bool.{Bool, true, false, not, _&&_, false≢true}
+use mathlib.Core.List.{List, [], _∷_, _++_}
+use borrow.Author.Tests.{not-true, not-false}
 use lib.ListN.{length, getD, drop, drop-of-length-le}
 use lib.Seq.{drop-cons}
 use Rattle.sequence.specs.Sequence.{every}
+
+-- ---- conjunctions
+
+-- the parts of one that holds
+pub left-of : (a b : Bool) → (a && b) ≡ true → a ≡ true
+left-of true b e = refl
+left-of false b e = absurd (false≢true e)
+
+pub right-of : (a b : Bool) → (a && b) ≡ true → b ≡ true
+right-of true b e = e
+right-of false b e = absurd (false≢true e)
+
+-- one whose tests are made in order
+pub both : {a b : Bool} → a ≡ true → b ≡ true → (a && b) ≡ true
+both e f = rw (e, f) refl
+
+pub fails : {a b : Bool} → a ≡ true → b ≡ false → (a && b) ≡ false
+fails e f = rw (e, f) refl
+
+pub failed : {a : Bool} (b : Bool) → a ≡ false → (a && b) ≡ false
+failed b e = rw e refl
+
+pub decides : {a b r : Bool} → a ≡ true → r ≡ b → r ≡ (a && b)
+decides e f = rw e f
+
+-- ---- a negated test of a function's answer, and the definition that the answer is equal to
+
+pub was-no : {r d : Bool} → r ≡ d → not r ≡ true → d ≡ false
+was-no {r} e t = sym e ∙ not-true r t
+
+pub was-yes : {r d : Bool} → r ≡ d → not r ≡ false → d ≡ true
+was-yes {r} e t = sym e ∙ not-false r t
+
+-- ---- a test of each element
+
+pub every-snoc : {A : Type 0} (p : A → Bool) (l : List A) (x : A) → every p l ≡ true → p x ≡ true → every p (l ++ (x ∷ [])) ≡ true
+every-snoc p [] x e h = rw h
+every-snoc p (y ∷ l) x e h = rw (left-of (p y) (every p l) e, every-snoc p l x (right-of (p y) (every p l) e) h)
 
 -- `From i`: what is left from i on decides
 abbrev pub From : {A : Type 0} → (A → Bool) → List A → ℕ → Type 0

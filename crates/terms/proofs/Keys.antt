@@ -12,7 +12,7 @@ use Rattle.harmonic.specs.Table.{Row, lookup}
 use Rattle.terms.specs.Names.{same, padded, Entry, find, fixedNames}
 use Rattle.terms.specs.Inside.{byte, packed, keyOf, keyed}
 use Rattle.terms.specs.declared.names.Known.{Known}
-use Rattle.terms.proofs.Both.{left-of, right-of}
+use Rattle.sequence.proofs.Tests.{left-of, right-of}
 
 module _ (b : ℕ) (e : byte b ≡ true) where
   above-zero : 0 < b

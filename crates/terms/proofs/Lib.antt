@@ -1,5 +1,6 @@
-pub mod Both
+pub mod First
 pub mod Keys
 pub mod Digits
 pub mod Slots
 pub mod Asked
+pub mod Parts

@@ -12,7 +12,7 @@ use borrow.Author.Tests.{leb-true, ltb-true, lt-ltb, eq-eqb, ne-eqb, eqb-true, e
 use Rattle.sequence.specs.Sequence.{every}
 use Rattle.terms.specs.Names.{padded, find, fixedNames, nameOf, capital, wellFormed, readTerm, byKnown, refused}
 use Rattle.terms.specs.Inside.{byte, Clean}
-use Rattle.terms.proofs.Both.{left-of, right-of}
+use Rattle.sequence.proofs.Tests.{left-of, right-of}
 
 -- ---- the loop that looks for the first zero
 

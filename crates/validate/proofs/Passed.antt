@@ -7,14 +7,16 @@ use borrow.Author.Tests.{leb-true, ltb-true}
 use lib.Dec.{leb, ltb, eqb}
 use lib.ListN.{length}
 use Rattle.sequence.specs.Sequence.{every}
+use Rattle.sequence.proofs.Tests.{left-of, right-of}
+use Rattle.terms.specs.Slots.{namesRefusal}
 use Rattle.terms.specs.Questions.{Question, ask, firstNo}
 use Rattle.design.specs.Design.{freeCount}
 use Rattle.solver.specs.declared.IterOptions.{IterOptions}
 use Rattle.validate.specs.Call.{Lent, Sizes}
-use Rattle.validate.specs.Questions.{limits, counts, room, scratchNeeded, finiteInput, finiteOptions, codesKnown, namesNo, asked, Ready}
+use Rattle.validate.specs.Questions.{limits, counts, room, scratchNeeded, finiteInput, finiteOptions, codesKnown, asked, Ready}
 use Rattle.validate.specs.declared.Asked.{Asked}
 use Rattle.validate.specs.declared.Asked.the-variants.{Pass, No}
-use Rattle.validate.proofs.Laws.{and-left, and-right, limits-facts, counts-facts}
+use Rattle.validate.proofs.Laws.{limits-facts, counts-facts}
 
 one : (b : Bool) (r : Asked) (k f : ℕ) (t : Bool) → Pass f ≡ cond b r (No k) → (Pass f ≡ r → t ≡ true) → (b && t) ≡ true
 one true r k f t h g = g h
@@ -35,15 +37,15 @@ some a b c d e f g h i rest t =
     let r3 = d && r4 in
     let r2 = c && r3 in
     let r1 = b && r2 in
-    let t1 = and-right a r1 t in
-    let t2 = and-right b r2 t1 in
-    let t3 = and-right c r3 t2 in
-    let t4 = and-right d r4 t3 in
-    let t5 = and-right e r5 t4 in
-    let t6 = and-right f r6 t5 in
-    let t7 = and-right g r7 t6 in
-    let t8 = and-right h r8 t7 in
-    (and-left a r1 t, and-left b r2 t1, and-left c r3 t2, and-left i rest t8)
+    let t1 = right-of a r1 t in
+    let t2 = right-of b r2 t1 in
+    let t3 = right-of c r3 t2 in
+    let t4 = right-of d r4 t3 in
+    let t5 = right-of e r5 t4 in
+    let t6 = right-of f r6 t5 in
+    let t7 = right-of g r7 t6 in
+    let t8 = right-of h r8 t7 in
+    (left-of a r1 t, left-of b r2 t1, left-of c r3 t2, left-of i rest t8)
 
 record Roomy (s : Sizes) (m n : ℕ) : Type 0 where
   coefficients-room : m ≤ s .coefficients
@@ -60,15 +62,15 @@ room-facts s m n e =
     let c = leb m (s .sigma) in
     let d = leb (3 * n) (s .diagnostics) in
     let f = leb (scratchNeeded m n) (s .scratch) in
-    let e4 : (a && b && c && d) ≡ true = and-left (a && b && c && d) f e in
-    let e3 : (a && b && c) ≡ true = and-left (a && b && c) d e4 in
-    let e2 : (a && b) ≡ true = and-left (a && b) c e3 in
+    let e4 : (a && b && c && d) ≡ true = left-of (a && b && c && d) f e in
+    let e3 : (a && b && c) ≡ true = left-of (a && b && c) d e4 in
+    let e2 : (a && b) ≡ true = left-of (a && b) c e3 in
     record {
-      coefficients-room = leb-true m (s .coefficients) (and-left a b e2);
-      change-room = leb-true m (s .change) (and-right a b e2);
-      sigma-room = leb-true m (s .sigma) (and-right (a && b) c e3);
-      diagnostics-room = leb-true (3 * n) (s .diagnostics) (and-right (a && b && c) d e4);
-      scratch-room = leb-true (scratchNeeded m n) (s .scratch) (and-right (a && b && c && d) f e);
+      coefficients-room = leb-true m (s .coefficients) (left-of a b e2);
+      change-room = leb-true m (s .change) (right-of a b e2);
+      sigma-room = leb-true m (s .sigma) (right-of (a && b) c e3);
+      diagnostics-room = leb-true (3 * n) (s .diagnostics) (right-of (a && b && c) d e4);
+      scratch-room = leb-true (scratchNeeded m n) (s .scratch) (right-of (a && b && c && d) f e);
     }
 
 pub ready : (l : Lent) (o : IterOptions) (s : Sizes) (free : ℕ) (r : Asked) → r ≡ Pass free → r ≡ asked l o s → Ready l s
@@ -77,7 +79,7 @@ ready l o s free r e q =
     let m = length (l .coefficients) in
     let n = length (l .dh) in
     let fc = freeCount (l .fixed) in
-    let no = namesNo m (l .names) in
+    let no = namesRefusal (l .names) m in
     let q1 = limits m n in
     let q2 = counts (length (l .names)) (length (l .fixed)) (length (l .dd)) (length (l .pier)) (length (l .sheets)) m n in
     let q3 = room s m n in

@@ -1,14 +1,14 @@
 -- The questions of document 01 that a fit is put, in order. Definitions only.
-use Prim.Native.Nat.{ℕ, zero, suc, _+_, _*_, _≤_, _<_}
+use Prim.Native.Nat.{ℕ, _+_, _*_, _≤_, _<_}
 use mathlib.Core.Path.{_≡_}
-use mathlib.Core.Bool.{Bool, false, _&&_, cond}
-use mathlib.Core.List.{List, [], _∷_}
+use mathlib.Core.Bool.{Bool, false, _&&_}
+use mathlib.Core.List.{List, [], _∷_, _++_}
 use lib.Dec.{leb, ltb, eqb}
-use lib.ListN.{length, take, drop}
+use lib.ListN.{length}
 use Rattle.float.specs.Float.{#0, isFinite}
 use Rattle.sequence.specs.Sequence.{every}
-use Rattle.terms.specs.Names.{readTerm}
-use Rattle.terms.specs.Questions.{ask, firstNo}
+use Rattle.terms.specs.Slots.{namesRefusal}
+use Rattle.terms.specs.Questions.{Question, ask, firstNo}
 use Rattle.design.specs.Design.{freeCount}
 use Rattle.solver.specs.declared.IterOptions.{IterOptions}
 use Rattle.validate.specs.Call.{Lent, Sizes}
@@ -48,34 +48,31 @@ finiteOptions o =
 unfoldable pub codesKnown : List ℕ → List ℕ → Bool
 codesKnown pier fixed = every (λ c. ltb c 3) pier && every (λ f. ltb f 2) fixed
 
--- 7 to 10, all put to one name before the next, the lowest slot first: the number of the first no, or 0
-unfoldable pub namesNo : ℕ → List ℕ → ℕ
-namesNo zero names = 0
-namesNo (suc m) names =
-    let no = readTerm (take 16 names) .refusal in
-    let rest = namesNo m (drop 16 names) in
-    cond (eqb no 0) rest no
-
 -- ---- in order
+
+-- 1 to 3 ask about lengths alone: m, n, then those of names, flags, declination differences, pier codes and sheets, and the buffers'
+abbrev pub sizesAsked : ℕ → ℕ → ℕ → ℕ → ℕ → ℕ → ℕ → Sizes → List Question
+sizesAsked m n names fixed dd pier sheets s = ask (limits m n) 1 ∷ ask (counts names fixed dd pier sheets m n) 2 ∷ ask (room s m n) 3 ∷ []
+
+-- 4 to 6 about values
+abbrev pub valuesAsked : Lent → IterOptions → List Question
+valuesAsked l o =
+    ask (finiteInput l && finiteOptions o) 4 ∷ ask (codesKnown (l .pier) (l .fixed)) 5 ∷ ask (leb (o .«max_iter») 1000) 6 ∷ []
+
+-- 7 to 13 about names, flags, m and n
+abbrev pub termsAsked : List ℕ → List ℕ → ℕ → ℕ → List Question
+termsAsked names fixed m n =
+    let no = namesRefusal names m in
+    let free = freeCount fixed in
+    ask (eqb no 0) no ∷ ask (ltb 0 m) 11 ∷ ask (ltb 0 free) 12 ∷ ask (leb free n) 13 ∷ []
 
 unfoldable pub asked : Lent → IterOptions → Sizes → Asked
 asked l o s =
     let m = length (l .coefficients) in
     let n = length (l .dh) in
-    let free = freeCount (l .fixed) in
-    let no = namesNo m (l .names) in
-    firstNo No (Pass free)
-    (ask (limits m n) 1
-    ∷ ask (counts (length (l .names)) (length (l .fixed)) (length (l .dd)) (length (l .pier)) (length (l .sheets)) m n) 2
-    ∷ ask (room s m n) 3
-    ∷ ask (finiteInput l && finiteOptions o) 4
-    ∷ ask (codesKnown (l .pier) (l .fixed)) 5
-    ∷ ask (leb (o .«max_iter») 1000) 6
-    ∷ ask (eqb no 0) no
-    ∷ ask (ltb 0 m) 11
-    ∷ ask (ltb 0 free) 12
-    ∷ ask (leb free n) 13
-    ∷ [])
+    firstNo No (Pass (freeCount (l .fixed)))
+    (sizesAsked m n (length (l .names)) (length (l .fixed)) (length (l .dd)) (length (l .pier)) (length (l .sheets)) s
+    ++ (valuesAsked l o ++ termsAsked (l .names) (l .fixed) m n))
 
 -- the single step takes no options: these pass questions 4 and 6
 abbrev pub noOptions : IterOptions

@@ -6,8 +6,9 @@ ghost use Prim.Native.Nat.{_*_, _≤_};
 ghost use lib.Dec.{ltb};
 ghost use lib.ListN.{length};
 ghost use Rattle.sequence.specs.Sequence.{every};
+ghost use Rattle.terms.specs.Questions.{noOf};
 ghost use Rattle.validate.specs.Call.{lent, sizes};
-ghost use Rattle.validate.specs.Questions.{limits, counts, scratchNeeded, room, finiteInput, finiteOptions, codesKnown, namesNo, asked, noOptions};
+ghost use Rattle.validate.specs.Questions.{limits, counts, scratchNeeded, room, finiteInput, finiteOptions, codesKnown, sizesAsked, valuesAsked, termsAsked, asked, noOptions};
 use solver::IterOptions;
 
 // All questions passed, with the number of free terms, or the number of the first no.
@@ -168,17 +169,95 @@ fn codes_known(pier: &[u8], fixed: &[u8]) -> bool
     codes_below(fixed, 2)
 }
 
-// Questions 7 to 10 of each slot, the lowest first: the number of the first no, or 0.
-pub fn names_refused(names: &[u8], m: usize) -> u8
-    requires { ⌜ length (now names) ≡ 16 * m ⌝ }
-    ensures { λ r. ⌜ r ≡ namesNo m (now (names .entry)) ⌝ }
+// Questions 1 to 3, of lengths alone: the number of the first no, or 0.
+fn sizes_refusal(
+    m: usize,
+    n: usize,
+    names: usize,
+    fixed: usize,
+    dd: usize,
+    pier: usize,
+    sheets: usize,
+    out: usize,
+    change: usize,
+    sigma: usize,
+    diagnostics: usize,
+    scratch: usize,
+) -> u8
+    ensures { λ r. ⌜ r ≡ noOf (sizesAsked m n names fixed dd pier sheets (sizes out change sigma diagnostics scratch)) ⌝ }
 {
-    for j in 0..m {
-        let a = 16 * j;
-        let r = terms::read_term(&names[a..a + 16]);
-        if r.refusal != 0 {
-            return r.refusal;
-        }
+    if !within_limits(m, n) {
+        return 1;
+    }
+    if !counts_match(names, fixed, dd, pier, sheets, m, n) {
+        return 2;
+    }
+    if !has_room(out, change, sigma, diagnostics, scratch, m, n) {
+        return 3;
+    }
+    0
+}
+
+// Questions 4 to 6, of values.
+fn values_refusal(
+    names: &[u8],
+    fixed: &[u8],
+    coefficients: &[f64],
+    dh: &[f64],
+    dd: &[f64],
+    pier: &[u8],
+    sheets: &[f64],
+    sin_lat: f64,
+    cos_lat: f64,
+    fit_tol: f64,
+    options: IterOptions,
+) -> u8
+    ensures { λ r. ⌜ r ≡ noOf (valuesAsked (lent (now (names .entry)) (now (fixed .entry)) (now (coefficients .entry)) (now (dh .entry)) (now (dd .entry)) (now (pier .entry)) (now (sheets .entry)) «sin_lat» «cos_lat» «fit_tol») options) ⌝ }
+{
+    if !finite_input(
+        names,
+        fixed,
+        coefficients,
+        dh,
+        dd,
+        pier,
+        sheets,
+        sin_lat,
+        cos_lat,
+        fit_tol,
+    ) {
+        return 4;
+    }
+    if !finite_options(options) {
+        return 4;
+    }
+    if !codes_known(pier, fixed) {
+        return 5;
+    }
+    if options.max_iter > 1000 {
+        return 6;
+    }
+    0
+}
+
+// Questions 7 to 13, of m terms and n stars.
+fn terms_refusal(names: &[u8], fixed: &[u8], m: usize, n: usize) -> u8
+    requires { ⌜ 16 * m ≤ length (now names) ⌝ }
+    ensures { λ r. ⌜ r ≡ noOf (termsAsked (now (names .entry)) (now (fixed .entry)) m n) ⌝ }
+{
+    let no = terms::names_refusal(names, m);
+    if no != 0 {
+        return no;
+    }
+    if m == 0 {
+        return 11;
+    }
+    let free = design::free_count(fixed);
+    if free == 0 {
+        return 12;
+    }
+    if free > n {
+        return 13;
     }
     0
 }
@@ -206,24 +285,24 @@ pub fn questions(
 {
     let m = coefficients.len();
     let n = dh.len();
-    if !within_limits(m, n) {
-        return Asked::No(1);
-    }
-    if !counts_match(
+    let no_size = sizes_refusal(
+        m,
+        n,
         names.len(),
         fixed.len(),
         dd.len(),
         pier.len(),
         sheets.len(),
-        m,
-        n,
-    ) {
-        return Asked::No(2);
+        out,
+        change,
+        sigma,
+        diagnostics,
+        scratch,
+    );
+    if no_size != 0 {
+        return Asked::No(no_size);
     }
-    if !has_room(out, change, sigma, diagnostics, scratch, m, n) {
-        return Asked::No(3);
-    }
-    if !finite_input(
+    let no_value = values_refusal(
         names,
         fixed,
         coefficients,
@@ -234,33 +313,16 @@ pub fn questions(
         sin_lat,
         cos_lat,
         fit_tol,
-    ) {
-        return Asked::No(4);
+        options,
+    );
+    if no_value != 0 {
+        return Asked::No(no_value);
     }
-    if !finite_options(options) {
-        return Asked::No(4);
+    let no_term = terms_refusal(names, fixed, m, n);
+    if no_term != 0 {
+        return Asked::No(no_term);
     }
-    if !codes_known(pier, fixed) {
-        return Asked::No(5);
-    }
-    if options.max_iter > 1000 {
-        return Asked::No(6);
-    }
-    let no = names_refused(names, m);
-    if no != 0 {
-        return Asked::No(no);
-    }
-    if m == 0 {
-        return Asked::No(11);
-    }
-    let free = design::free_count(fixed);
-    if free == 0 {
-        return Asked::No(12);
-    }
-    if free > n {
-        return Asked::No(13);
-    }
-    Asked::Pass(free)
+    Asked::Pass(design::free_count(fixed))
 }
 
 // What the single step puts in the place of the options that it doesn't take.

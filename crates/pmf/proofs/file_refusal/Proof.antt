@@ -3,7 +3,7 @@ use Prim.Native.Nat.{_≤_}
 use native.Mathlib.Omega.{arith}
 use mathlib.Core.Path.{_≡_, sym, _∙_}
 use lib.ListN.{length}
-use Rattle.validate.proofs.Laws.{was-no, was-yes}
+use Rattle.sequence.proofs.Tests.{was-no, was-yes}
 use Rattle.pmf.specs.File.{termsOf, starsOf, fileSize}
 use Rattle.pmf.proofs.Header.{Header, no-length, no-mark, no-version, no-mode, no-terms, no-stars, no-size, none}
 use borrow.Author.Needs.{needs}

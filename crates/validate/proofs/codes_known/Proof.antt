@@ -1,7 +1,7 @@
 -- `validate::codes_known` meets its contract. Assumes nothing.
 use mathlib.Core.Path.{sym}
 use Rattle.validate.specs.Questions.{codesKnown}
-use Rattle.validate.proofs.Laws.{failed, decides, was-yes, was-no}
+use Rattle.sequence.proofs.Tests.{failed, decides, was-yes, was-no}
 use borrow.Author.Needs.{needs}
 use Rattle.validate.proofs.codes_known.Statement.{statement}
 use Rattle.validate.proofs.codes_known.Tie as tie

@@ -1,7 +1,7 @@
 -- `validate::finite_input` meets its contract. Assumes nothing.
 use mathlib.Core.Path.{sym}
 use Rattle.validate.specs.Questions.{finiteInput}
-use Rattle.validate.proofs.Laws.{both, fails, failed, decides, was-yes, was-no}
+use Rattle.sequence.proofs.Tests.{both, fails, failed, decides, was-yes, was-no}
 use borrow.Author.Needs.{needs}
 use Rattle.validate.proofs.finite_input.Statement.{statement}
 use Rattle.validate.proofs.finite_input.Tie as tie

@@ -1,7 +1,7 @@
 -- `validate::finite_options` meets its contract. Assumes nothing.
 use mathlib.Core.Path.{sym}
 use Rattle.validate.specs.Questions.{finiteOptions}
-use Rattle.validate.proofs.Laws.{both, fails, failed, decides, was-yes, was-no}
+use Rattle.sequence.proofs.Tests.{both, fails, failed, decides, was-yes, was-no}
 use borrow.Author.Needs.{needs}
 use Rattle.validate.proofs.finite_options.Statement.{statement}
 use Rattle.validate.proofs.finite_options.Tie as tie

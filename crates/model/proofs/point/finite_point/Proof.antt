@@ -1,5 +1,5 @@
 -- `model::point::finite_point` meets its contract. Assumes nothing.
-use Rattle.model.proofs.Laws.{was-yes, was-no}
+use Rattle.sequence.proofs.Tests.{was-yes, was-no}
 use borrow.Author.Needs.{needs}
 use Rattle.model.proofs.point.finite_point.Statement.{statement}
 use Rattle.model.proofs.point.finite_point.Tie as tie

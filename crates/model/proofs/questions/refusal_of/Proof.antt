@@ -2,7 +2,8 @@
 use mathlib.Core.Path.{sym}
 use borrow.Author.Tests.{eq-eqb, ne-eqb, le-leb, not-true, not-false}
 use Rattle.model.specs.Model.{refusalOf}
-use Rattle.model.proofs.Laws.{many, was-yes, was-no, number-kept}
+use Rattle.sequence.proofs.Tests.{was-yes, was-no}
+use Rattle.model.proofs.Laws.{many, number-kept}
 use borrow.Author.Needs.{needs}
 use Rattle.model.proofs.questions.refusal_of.Statement.{statement}
 use Rattle.model.proofs.questions.refusal_of.Tie as tie

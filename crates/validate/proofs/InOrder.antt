@@ -1,0 +1,65 @@
+-- The questions of a fit, put in three parts: a no of one part is that of the whole where the parts before it had none. Assumes nothing.
+use Prim.Native.Nat.{ℕ, _*_}
+use mathlib.Core.Path.{_≡_, refl, sym, _∙_, ap}
+use mathlib.Core.Bool.{cond}
+use mathlib.Core.List.{List, [], _++_}
+use lib.ListN.{length}
+use Rattle.sequence.proofs.Tests.{both}
+use Rattle.terms.specs.Questions.{Question, noOf}
+use Rattle.terms.specs.Slots.{namesRefusal}
+use Rattle.terms.proofs.Parts.{stops, goes-on, numbered-itself, went-on}
+use Rattle.design.specs.Design.{freeCount}
+use Rattle.solver.specs.declared.IterOptions.{IterOptions}
+use Rattle.validate.specs.Call.{Lent, Sizes}
+use Rattle.validate.specs.Questions.{limits, counts, room, sizesAsked, valuesAsked, termsAsked, asked}
+use Rattle.validate.specs.declared.Asked.{Asked}
+use Rattle.validate.specs.declared.Asked.the-variants.{Pass, No}
+use Rattle.validate.proofs.Laws.{counts-facts}
+
+-- lengths that pass have 16 name bytes for each term
+pub named : (m n names fixed dd pier sheets : ℕ) (s : Sizes) → noOf (sizesAsked m n names fixed dd pier sheets s) ≡ 0 → names ≡ 16 * m
+named m n names fixed dd pier sheets s e =
+    let room-no : ℕ = cond (room s m n) 0 3 in
+    let counts-no : ℕ = cond (counts names fixed dd pier sheets m n) room-no 2 in
+    let two = went-on (counts names fixed dd pier sheets m n) room-no 1 (went-on (limits m n) counts-no 0 e .1) in
+    counts-facts names fixed dd pier sheets m n (two .0) .names-count
+
+module _ (l : Lent) (o : IterOptions) (s : Sizes) where
+  abbrev sizes : List Question
+  sizes =
+      sizesAsked (length (l .coefficients)) (length (l .dh)) (length (l .names)) (length (l .fixed)) (length (l .dd)) (length (l .pier)) (length (l .sheets)) s
+
+  abbrev values : List Question
+  values = valuesAsked l o
+
+  abbrev terms : List Question
+  terms = termsAsked (l .names) (l .fixed) (length (l .coefficients)) (length (l .dh))
+
+  abbrev pass : Asked
+  pass = Pass (freeCount (l .fixed))
+
+  pub no-size : (j : ℕ) → j ≡ noOf sizes → (j ≡ 0 → ⊥) → No j ≡ asked l o s
+  unfolding asked
+  no-size j e h = ap No e ∙ stops No pass sizes (values ++ terms) (λ z. h (e ∙ z))
+
+  module _ (j : ℕ) (sized : j ≡ noOf sizes) (j-yes : j ≡ 0) where
+    pub no-value : (k : ℕ) → k ≡ noOf values → (k ≡ 0 → ⊥) → No k ≡ asked l o s
+    unfolding asked
+    no-value k e h =
+        ap No e ∙ stops No pass values terms (λ z. h (e ∙ z)) ∙ goes-on No pass sizes (values ++ terms) refl (sym sized ∙ j-yes)
+
+    module _ (k : ℕ) (valued : k ≡ noOf values) (k-yes : k ≡ 0) where
+      pub no-term : (i : ℕ) → i ≡ noOf terms → (i ≡ 0 → ⊥) → No i ≡ asked l o s
+      unfolding asked
+      no-term i e h =
+          ap No e ∙ stops No pass terms [] (λ z. h (e ∙ z))
+          ∙ goes-on No pass values terms refl (sym valued ∙ k-yes)
+          ∙ goes-on No pass sizes (values ++ terms) refl (sym sized ∙ j-yes)
+
+      pub passes : (i : ℕ) → i ≡ noOf terms → i ≡ 0 → (free : ℕ) → free ≡ freeCount (l .fixed) → Pass free ≡ asked l o s
+      unfolding asked
+      passes i e z free f =
+          ap Pass f
+          ∙ goes-on No pass terms [] (both (numbered-itself (namesRefusal (l .names) (length (l .coefficients)))) refl) (sym e ∙ z)
+          ∙ goes-on No pass values terms refl (sym valued ∙ k-yes)
+          ∙ goes-on No pass sizes (values ++ terms) refl (sym sized ∙ j-yes)
