@@ -1,18 +1,18 @@
 -- Demand 3 follows from the definitions: the set that the search comes to is the best of the sets that it tries, and an accepted call returns
 -- that set. Assumes nothing.
 use Prim.Native.Nat.{ℕ, zero, suc, _+_, _-_, _*_, _≤_, _<_}
-use native.Mathlib.Nat.{zero-add, suc-add}
+use native.Mathlib.Nat.{zero-add}
 use native.Mathlib.Omega.{arith}
 use mathlib.Core.Path.{_≡_, refl, sym, ap, _∙_, subst}
 use mathlib.Core.Bool.{Bool, true, false, cond}
 use mathlib.Core.List.{List, [], _∷_, zipWith, List·Memᴰ}
 use lib.Dec.{T}
-use lib.ListN.{length, take, List·getD-append}
-use lib.Seq.{getD-at, take-all}
-use lib.Ieee.{Float, nan, binary64, fits, sub, lt, le}
+use lib.ListN.{length, take}
+use lib.Seq.{take-all}
+use lib.Ieee.{Float, binary64, fits, sub, lt, le}
 use lib.Ieee.Fits.{nan-fits, mul-fits, sub-fits}
-use Rattle.sequence.specs.Sequence.{at, table}
-use Rattle.sequence.proofs.Fills.{table-length, at-table, take-filled, table-front}
+use Rattle.sequence.specs.Sequence.{at}
+use Rattle.sequence.proofs.Fills.{at-table, take-filled, table-front}
 use Rattle.best.specs.ChiSquare.{chi, AtMost}
 use Rattle.best.specs.Trials.{proposed, answer, Keeps}
 use Rattle.best.proofs.Best.{answer-listed}

@@ -2,12 +2,12 @@
 use Prim.Native.Nat.{ℕ, _+_, _-_, _*_, _≤_, _<_}
 use native.Mathlib.Omega.{arith}
 use mathlib.Core.Path.{_≡_, refl, sym, ap, _∙_, subst}
-use mathlib.Core.Bool.{true, false, cond}
+use mathlib.Core.Bool.{true, false}
 use mathlib.Core.List.{List, zipWith}
 use lib.ListN.{length, take}
 use lib.Ieee.{Float, binary64, sub, lt, le}
 use Rattle.float.specs.Float.{_⊗_, _⊘_, #0}
-use Rattle.sequence.specs.Sequence.{at, part, table, filled, Only}
+use Rattle.sequence.specs.Sequence.{at, part, filled, Only}
 use Rattle.sequence.proofs.Fills.{table-length, filled-length, filled-all, take-filled, table-front}
 use Rattle.sequence.proofs.Only.{only-wider, only-then}
 use Rattle.column.specs.Column.{zeros}
@@ -22,11 +22,10 @@ use Rattle.design.specs.Design.{freeCount, freeProduct}
 use Rattle.products.specs.Products.{weighedTo}
 use Rattle.outcome.specs.Outcome.{heightOf, Fits}
 use Rattle.outcome.proofs.Laws.{skyTo-at, sky-same}
-use Rattle.lm_system.specs.System.{residuals, chi2Of, skyResiduals, weighedResiduals, weighedColumn, huberK, lmStep, movedAt, moved, stepNorm, Left, LmStepped}
-use Rattle.iterated.specs.declared.LmLoopResult.{LmLoopResult}
+use Rattle.lm_system.specs.System.{residuals, skyResiduals, weighedResiduals, weighedColumn, huberK, lmStep, movedAt, moved, stepNorm, Left, LmStepped}
 use Rattle.iterated.specs.declared.Trial.{Trial}
 use Rattle.iterated.specs.declared.Trial.the-variants.{Accepted, Rejected}
-use Rattle.iterated.specs.Iterated.{under, chi2At, Tried, triedTo, trialOf, Report, report, hopeless, answered, leaves, trials, lmLoop, lastStep, lastSet, lastChi2, freeResiduals, Within, Proposed, LastTried}
+use Rattle.iterated.specs.Iterated.{under, chi2At, Tried, triedTo, trialOf, Report, report, hopeless, answered, leaves, trials, lastStep, lastSet, lastChi2, freeResiduals, Within, Proposed, LastTried}
 
 -- the same call with another set
 pub fits-under : (l : Lent) (s w v : List Float) → Fits l w → length s ≡ length (l .coefficients) → length v ≡ length w → Fits (under l s) v

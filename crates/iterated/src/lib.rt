@@ -7,11 +7,11 @@ ghost use lib.ListN.{length};
 ghost use Rattle.float.specs.Float.{_⊖_};
 ghost use Rattle.sequence.specs.Sequence.{at, filled, Only};
 ghost use Rattle.column.specs.Column.{zeros};
-ghost use Rattle.validate.specs.Call.{lent, buffers, sizesOf};
+ghost use Rattle.validate.specs.Call.{Lent, lent, buffers, sizesOf};
 ghost use Rattle.validate.specs.Questions.{Ready};
 ghost use Rattle.outcome.specs.Outcome.{outcome, Fits};
 ghost use Rattle.lm_system.specs.System.{Left};
-ghost use Rattle.iterated.specs.Iterated.{triedTo, trialOf, lmLoop, Within, Proposed, LastTried, Searched, fitted, iteratedOutcome};
+ghost use Rattle.iterated.specs.Iterated.{under, triedTo, trialOf, lmLoop, Within, Proposed, LastTried, Searched, fitted, iteratedOutcome};
 ghost use Rattle.iterated.specs.Demand3.{Demand3};
 use linalg::SolveOutcome;
 use solver::Fit;
@@ -60,8 +60,10 @@ fn propose(
     lambda: f64,
     w: &mut [f64],
 ) -> Proposal
-    requires { ⌜ Fits (lent (now names) (now fixed) (now set) (now dh) (now dd) (now pier) (now sheets) «sin_lat» «cos_lat» «fit_tol») (now w) × Left (lent (now names) (now fixed) (now set) (now dh) (now dd) (now pier) (now sheets) «sin_lat» «cos_lat» «fit_tol») (now w) ⌝ }
-    ensures { λ r. ⌜ Proposed (lent (now (names .entry)) (now (fixed .entry)) (now (set .entry)) (now (dh .entry)) (now (dd .entry)) (now (pier .entry)) (now (sheets .entry)) «sin_lat» «cos_lat» «fit_tol») k lambda (now (w .entry)) (now (w .exit)) (r .set) (r .chi2) (r .solved) ⌝ }
+    ghost { Lent }
+    requires { λ l. ⌜ lent (now names) (now fixed) (now set) (now dh) (now dd) (now pier) (now sheets) «sin_lat» «cos_lat» «fit_tol» ≡ l ⌝ }
+    requires { λ l. ⌜ Fits l (now w) × Left l (now w) ⌝ }
+    ensures { λ l r. ⌜ Proposed l k lambda (now (w .entry)) (now (w .exit)) (r .set) (r .chi2) (r .solved) ⌝ }
 {
     let m = set.len();
     let solved = lm_system::lm_step(
@@ -119,9 +121,11 @@ fn attempt(
     set: &mut [f64],
     w: &mut [f64],
 ) -> Trial
-    requires { ⌜ Fits (lent (now names) (now fixed) (now set) (now dh) (now dd) (now pier) (now sheets) «sin_lat» «cos_lat» «fit_tol») (now w) × Left (lent (now names) (now fixed) (now set) (now dh) (now dd) (now pier) (now sheets) «sin_lat» «cos_lat» «fit_tol») (now w) ⌝ }
-    ensures { λ r. ⌜ (triedTo r (now (set .exit)) ≡ trialOf (lent (now (names .entry)) (now (fixed .entry)) (now (set .entry)) (now (dh .entry)) (now (dd .entry)) (now (pier .entry)) (now (sheets .entry)) «sin_lat» «cos_lat» «fit_tol») options chi2 lambda (now (set .entry)))
-        × Within (lent (now (names .entry)) (now (fixed .entry)) (now (set .entry)) (now (dh .entry)) (now (dd .entry)) (now (pier .entry)) (now (sheets .entry)) «sin_lat» «cos_lat» «fit_tol») (now (w .entry)) (now (w .exit)) × Left (lent (now (names .entry)) (now (fixed .entry)) (now (set .exit)) (now (dh .entry)) (now (dd .entry)) (now (pier .entry)) (now (sheets .entry)) «sin_lat» «cos_lat» «fit_tol») (now (w .exit)) ⌝ }
+    ghost { Lent }
+    requires { λ l. ⌜ lent (now names) (now fixed) (now set) (now dh) (now dd) (now pier) (now sheets) «sin_lat» «cos_lat» «fit_tol» ≡ l ⌝ }
+    requires { λ l. ⌜ Fits l (now w) × Left l (now w) ⌝ }
+    ensures { λ l r. ⌜ (triedTo r (now (set .exit)) ≡ trialOf l options chi2 lambda (now (set .entry)))
+        × Within l (now (w .entry)) (now (w .exit)) × Left (under l (now (set .exit))) (now (w .exit)) ⌝ }
 {
     let m = set.len();
     let k = lm_system::huber_threshold(dh.len(), fixed, options, chi2);
@@ -178,8 +182,10 @@ fn run_lm_loop(
     set: &mut [f64],
     w: &mut [f64],
 ) -> LmLoopResult
-    requires { ⌜ Fits (lent (now names) (now fixed) (now set) (now dh) (now dd) (now pier) (now sheets) «sin_lat» «cos_lat» «fit_tol») (now w) ⌝ }
-    ensures { λ r. ⌜ (record { set = now (set .exit); how = r } ≡ lmLoop (lent (now (names .entry)) (now (fixed .entry)) (now (set .entry)) (now (dh .entry)) (now (dd .entry)) (now (pier .entry)) (now (sheets .entry)) «sin_lat» «cos_lat» «fit_tol») options) × Within (lent (now (names .entry)) (now (fixed .entry)) (now (set .entry)) (now (dh .entry)) (now (dd .entry)) (now (pier .entry)) (now (sheets .entry)) «sin_lat» «cos_lat» «fit_tol») (now (w .entry)) (now (w .exit)) × Left (lent (now (names .entry)) (now (fixed .entry)) (now (set .exit)) (now (dh .entry)) (now (dd .entry)) (now (pier .entry)) (now (sheets .entry)) «sin_lat» «cos_lat» «fit_tol») (now (w .exit)) ⌝ }
+    ghost { Lent }
+    requires { λ l. ⌜ lent (now names) (now fixed) (now set) (now dh) (now dd) (now pier) (now sheets) «sin_lat» «cos_lat» «fit_tol» ≡ l ⌝ }
+    requires { λ l. ⌜ Fits l (now w) ⌝ }
+    ensures { λ l r. ⌜ (record { set = now (set .exit); how = r } ≡ lmLoop l options) × Within l (now (w .entry)) (now (w .exit)) × Left (under l (now (set .exit))) (now (w .exit)) ⌝ }
 {
     let limit = options.max_iter;
     let mut chi2 = lm_system::chi2_at_state(
@@ -266,8 +272,10 @@ fn apply_final_step(
     set: &mut [f64],
     w: &mut [f64],
 ) -> LastTrial
-    requires { ⌜ Fits (lent (now names) (now fixed) (now set) (now dh) (now dd) (now pier) (now sheets) «sin_lat» «cos_lat» «fit_tol») (now w) × Left (lent (now names) (now fixed) (now set) (now dh) (now dd) (now pier) (now sheets) «sin_lat» «cos_lat» «fit_tol») (now w) ⌝ }
-    ensures { λ r. ⌜ LastTried (lent (now (names .entry)) (now (fixed .entry)) (now (set .entry)) (now (dh .entry)) (now (dd .entry)) (now (pier .entry)) (now (sheets .entry)) «sin_lat» «cos_lat» «fit_tol») options chi2 (now (set .entry)) (now (w .entry)) (now (w .exit)) (now (set .exit)) (r .chi2) (r .solved) ⌝ }
+    ghost { Lent }
+    requires { λ l. ⌜ lent (now names) (now fixed) (now set) (now dh) (now dd) (now pier) (now sheets) «sin_lat» «cos_lat» «fit_tol» ≡ l ⌝ }
+    requires { λ l. ⌜ Fits l (now w) × Left l (now w) ⌝ }
+    ensures { λ l r. ⌜ LastTried l options chi2 (now (set .entry)) (now (w .entry)) (now (w .exit)) (now (set .exit)) (r .chi2) (r .solved) ⌝ }
 {
     let m = set.len();
     let k = lm_system::huber_threshold(dh.len(), fixed, options, chi2);
@@ -348,8 +356,10 @@ fn fit_set(
     options: IterOptions,
     w: &mut [f64],
 ) -> FittedSet
-    requires { ⌜ Fits (lent (now names) (now fixed) (now coefficients) (now dh) (now dd) (now pier) (now sheets) «sin_lat» «cos_lat» «fit_tol») (now w) ⌝ }
-    ensures { λ r. ⌜ Searched (lent (now (names .entry)) (now (fixed .entry)) (now (coefficients .entry)) (now (dh .entry)) (now (dd .entry)) (now (pier .entry)) (now (sheets .entry)) «sin_lat» «cos_lat» «fit_tol») options (now (w .entry)) (now (w .exit)) (r .set) (r .chi2) (r .lm) (r .solved) ⌝ }
+    ghost { Lent }
+    requires { λ l. ⌜ lent (now names) (now fixed) (now coefficients) (now dh) (now dd) (now pier) (now sheets) «sin_lat» «cos_lat» «fit_tol» ≡ l ⌝ }
+    requires { λ l. ⌜ Fits l (now w) ⌝ }
+    ensures { λ l r. ⌜ Searched l options (now (w .entry)) (now (w .exit)) (r .set) (r .chi2) (r .lm) (r .solved) ⌝ }
 {
     let m = coefficients.len();
     let mut set = padded(coefficients);
@@ -410,9 +420,11 @@ fn fit(
     diagnostics: &mut [f64],
     scratch: &mut [f64],
 ) -> FitResult
-    requires { ⌜ Ready (lent (now names) (now fixed) (now coefficients) (now dh) (now dd) (now pier) (now sheets) «sin_lat» «cos_lat» «fit_tol») (sizesOf (buffers (now out) (now change) (now sigma) (now diagnostics) (now scratch))) ⌝ }
-    ensures { λ r. ⌜ outcome (Fit.Done r) (buffers (now (out .exit)) (now (change .exit)) (now (sigma .exit)) (now (diagnostics .exit)) (now (scratch .exit)))
-        ≡ fitted (lent (now (names .entry)) (now (fixed .entry)) (now (coefficients .entry)) (now (dh .entry)) (now (dd .entry)) (now (pier .entry)) (now (sheets .entry)) «sin_lat» «cos_lat» «fit_tol») options (buffers (now (out .entry)) (now (change .entry)) (now (sigma .entry)) (now (diagnostics .entry)) (now (scratch .entry))) ⌝ }
+    ghost { Lent }
+    requires { λ l. ⌜ lent (now names) (now fixed) (now coefficients) (now dh) (now dd) (now pier) (now sheets) «sin_lat» «cos_lat» «fit_tol» ≡ l ⌝ }
+    requires { λ l. ⌜ Ready l (sizesOf (buffers (now out) (now change) (now sigma) (now diagnostics) (now scratch))) ⌝ }
+    ensures { λ l r. ⌜ outcome (Fit.Done r) (buffers (now (out .exit)) (now (change .exit)) (now (sigma .exit)) (now (diagnostics .exit)) (now (scratch .exit)))
+        ≡ fitted l options (buffers (now (out .entry)) (now (change .entry)) (now (sigma .entry)) (now (diagnostics .entry)) (now (scratch .entry))) ⌝ }
 {
     let m = coefficients.len();
     let n = dh.len();

@@ -1,14 +1,14 @@
 -- Texts written one after the other, byte by byte in a loop, and names up to their first zero. Assumes nothing.
-use Prim.Native.Nat.{ℕ, zero, suc, _+_, _*_, _≤_, _<_}
+use Prim.Native.Nat.{ℕ, suc, _+_, _≤_, _<_}
 use native.Mathlib.Nat.{add-zero, le-antisymm}
 use native.Mathlib.Numerals.{add-one}
 use native.Mathlib.Omega.{arith}
 use mathlib.Core.Path.{_≡_, refl, sym, ap, _∙_}
 use mathlib.Core.Bool.{cond}
-use mathlib.Core.List.{List, [], _∷_, _++_, append-nil, append-assoc}
+use mathlib.Core.List.{List, [], _∷_, _++_, append-nil}
 use borrow.Author.Tests.{eq-eqb, ne-eqb}
-use lib.ListN.{length, getD, take, drop, set, length-append, take-append-drop, drop-of-length-le}
-use lib.Seq.{sets, length-sets, take-suc, take-all, drop-cons, append-snoc, length-take-le}
+use lib.ListN.{length, getD, take, drop, set, length-append, drop-of-length-le}
+use lib.Seq.{sets, length-sets, take-suc, take-all, drop-cons, append-snoc}
 use Rattle.terms.specs.Names.{nameOf}
 use Rattle.harmonic.specs.Table.{ascii}
 use Rattle.solver.specs.declared.FitResult.{FitResult}

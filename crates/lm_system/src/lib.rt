@@ -9,7 +9,7 @@ ghost use Rattle.sequence.specs.Sequence.{at, part, filled, sumTo, Only};
 ghost use Rattle.column.specs.Column.{zeros};
 ghost use Rattle.design.specs.Design.{sheetAt, cosDec, weighing};
 ghost use Rattle.design.specs.Filled.{skyRows};
-ghost use Rattle.validate.specs.Call.{lent};
+ghost use Rattle.validate.specs.Call.{Lent, lent};
 ghost use Rattle.outcome.specs.Outcome.{Fits};
 ghost use Rattle.lm_system.specs.System.{residuals as residualsOf, chi2Of, Left, movedAt, rotates as rotatesOf, rotational as rotationalOf, larger as largerOf, largest as largestOf, stepNorm, huberFrom, LmStepped};
 use equatorial::EquatorialTerm;
@@ -31,14 +31,25 @@ pub fn residuals_under_state(
     fit_tol: f64,
     w: &mut [f64],
 )
-    requires { ⌜ Fits (lent (now names) (now fixed) (now set) (now dh) (now dd) (now pier) (now sheets) «sin_lat» «cos_lat» «fit_tol») (now w) ⌝ }
-    ensures { λ _. ⌜ (part (now (w .exit)) (2 * length (now (dh .entry))) (2 * length (now (dh .entry)))
-        ≡ residualsOf (lent (now (names .entry)) (now (fixed .entry)) (now (set .entry)) (now (dh .entry)) (now (dd .entry)) (now (pier .entry)) (now (sheets .entry)) «sin_lat» «cos_lat» «fit_tol»))
-        × Only 0 (4 * length (now (dh .entry))) (now (w .entry)) (now (w .exit)) ⌝ }
+    ghost { Lent }
+    requires { λ l. ⌜ lent (now names) (now fixed) (now set) (now dh) (now dd) (now pier) (now sheets) «sin_lat» «cos_lat» «fit_tol» ≡ l ⌝ }
+    requires { λ l. ⌜ Fits l (now w) ⌝ }
+    ensures { λ l _. ⌜ (part (now (w .exit)) (2 * length (l .dh)) (2 * length (l .dh))
+        ≡ residualsOf l)
+        × Only 0 (4 * length (l .dh)) (now (w .entry)) (now (w .exit)) ⌝ }
 {
     let rows = 2 * dh.len();
-    products::predict(names, pier, sheets, sin_lat, cos_lat, set, w, rows);
-    design::subtract_from_differences(dh, dd, &mut w[rows..rows + rows]);
+    products::residuals_into(
+        names,
+        dh,
+        dd,
+        pier,
+        sheets,
+        sin_lat,
+        cos_lat,
+        set,
+        &mut w[rows..rows + rows],
+    );
 }
 
 // The chi-square of a set, whose residuals it leaves at 2·n.
@@ -55,8 +66,10 @@ pub fn chi2_at_state(
     fit_tol: f64,
     w: &mut [f64],
 ) -> f64
-    requires { ⌜ Fits (lent (now names) (now fixed) (now set) (now dh) (now dd) (now pier) (now sheets) «sin_lat» «cos_lat» «fit_tol») (now w) ⌝ }
-    ensures { λ r. ⌜ (r ≡ chi2Of (lent (now (names .entry)) (now (fixed .entry)) (now (set .entry)) (now (dh .entry)) (now (dd .entry)) (now (pier .entry)) (now (sheets .entry)) «sin_lat» «cos_lat» «fit_tol»)) × Left (lent (now (names .entry)) (now (fixed .entry)) (now (set .entry)) (now (dh .entry)) (now (dd .entry)) (now (pier .entry)) (now (sheets .entry)) «sin_lat» «cos_lat» «fit_tol») (now (w .exit)) × Only 0 (4 * length (now (dh .entry))) (now (w .entry)) (now (w .exit)) ⌝ }
+    ghost { Lent }
+    requires { λ l. ⌜ lent (now names) (now fixed) (now set) (now dh) (now dd) (now pier) (now sheets) «sin_lat» «cos_lat» «fit_tol» ≡ l ⌝ }
+    requires { λ l. ⌜ Fits l (now w) ⌝ }
+    ensures { λ l r. ⌜ (r ≡ chi2Of l) × Left l (now (w .exit)) × Only 0 (4 * length (l .dh)) (now (w .entry)) (now (w .exit)) ⌝ }
 {
     residuals_under_state(
         names,
@@ -125,8 +138,10 @@ pub fn lm_step(
     lambda: f64,
     w: &mut [f64],
 ) -> SolveOutcome
-    requires { ⌜ Fits (lent (now names) (now fixed) (now set) (now dh) (now dd) (now pier) (now sheets) «sin_lat» «cos_lat» «fit_tol») (now w) × Left (lent (now names) (now fixed) (now set) (now dh) (now dd) (now pier) (now sheets) «sin_lat» «cos_lat» «fit_tol») (now w) ⌝ }
-    ensures { λ r. ⌜ LmStepped (lent (now (names .entry)) (now (fixed .entry)) (now (set .entry)) (now (dh .entry)) (now (dd .entry)) (now (pier .entry)) (now (sheets .entry)) «sin_lat» «cos_lat» «fit_tol») k lambda (now (w .entry)) (now (w .exit)) r ⌝ }
+    ghost { Lent }
+    requires { λ l. ⌜ lent (now names) (now fixed) (now set) (now dh) (now dd) (now pier) (now sheets) «sin_lat» «cos_lat» «fit_tol» ≡ l ⌝ }
+    requires { λ l. ⌜ Fits l (now w) × Left l (now w) ⌝ }
+    ensures { λ l r. ⌜ LmStepped l k lambda (now (w .entry)) (now (w .exit)) r ⌝ }
 {
     let n = dh.len();
     let rows = 2 * n;

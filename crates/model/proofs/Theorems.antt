@@ -8,8 +8,8 @@ use mathlib.Core.Bool.{Bool, true, false, cond, _||_}
 use mathlib.Core.List.{List, [], _∷_}
 use borrow.Author.Tests.{eqb-true, eqb-false, eq-eqb, ltb-true}
 use lib.Dec.{eqb, ltb}
-use lib.ListN.{length, take, set}
-use lib.Seq.{take-all, take-suc-set, length-take-le, length-sets, sets}
+use lib.ListN.{length, take}
+use lib.Seq.{take-all, take-suc-set, length-take-le, length-sets}
 use lib.Ieee.{Float}
 use Rattle.float.specs.Float.{#0, isFinite}
 use Rattle.sequence.specs.Sequence.{every, at, filled, sumTo}
@@ -28,7 +28,6 @@ use Rattle.model.specs.Model.{newModel, asked, refusalOf, termNames, ter
 use Rattle.model.specs.Correction.{pointRefusal, corrected, correctionAt, correction, noBreakdown, brokenDown, breakdownAt}
 use Rattle.model.specs.declared.PointingModel.{PointingModel}
 use Rattle.model.specs.declared.Breakdown.{Breakdown}
-use Rattle.model.specs.declared.Changed.{Changed}
 use Rattle.model.specs.declared.Correction.the-variants.{Given}
 use Rattle.model.proofs.Laws.{Passed, passed, passes, some-last, some-stop, same-itself}
 use Rattle.model.proofs.Stored.{read-stored}

@@ -26,7 +26,7 @@ use Rattle.design.specs.Filled.{rowsTo, columnTo, skyColumnTo, differencesTo, s
 use Rattle.design.proofs.Rows.{rows-table}
 use Rattle.design.proofs.Free.{free-few}
 use Rattle.stats.specs.Stats.{skyFrom, variance, sigmaAt}
-use Rattle.outcome.specs.Outcome.{starsOf, cosDecs, columnOf, skyOf, rowsOf, heightOf, sigmaOf, diagnosticFrom, diagnosticOf, threes, resultOf, Outcome, outcome, finished, Fits}
+use Rattle.outcome.specs.Outcome.{starsOf, cosDecs, columnOf, skyOf, rowsOf, heightOf, sigmaOf, diagnosticFrom, diagnosticOf, threes, resultOf, outcome, finished, Fits}
 
 -- ---- by the list of stars
 

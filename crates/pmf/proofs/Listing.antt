@@ -1,10 +1,10 @@
 -- What is read of a file, and the text that is written of it. Assumes nothing.
-use Prim.Native.Nat.{ℕ, _+_, _*_, _≤_}
+use Prim.Native.Nat.{ℕ, _+_, _*_}
 use native.Mathlib.Omega.{arith}
-use mathlib.Core.Path.{_≡_, refl, sym, ap, _∙_}
-use mathlib.Core.List.{List, [], _++_}
+use mathlib.Core.Path.{_≡_, sym, ap, _∙_}
+use mathlib.Core.List.{List, _++_}
 use lib.ListN.{length, drop, replicate, length-replicate}
-use lib.Seq.{sets, sets-eq}
+use lib.Seq.{sets-eq}
 use lib.Ieee.{Float}
 use Rattle.float.specs.Float.{#0}
 use Rattle.sequence.specs.Sequence.{part}
@@ -16,9 +16,9 @@ use Rattle.validate.specs.Call.{Lent, lent, buffers, sizes, sizesOf}
 use Rattle.validate.specs.Questions.{asked}
 use Rattle.validate.specs.declared.Asked.{Asked}
 use Rattle.validate.specs.declared.Asked.the-variants.{Pass, No}
-use Rattle.outcome.specs.Outcome.{Outcome, outcome}
+use Rattle.outcome.specs.Outcome.{outcome}
 use Rattle.pmf.specs.File.{termsOf, starsOf, settingAt, namesAt, flagsAt, dhAt, ddAt, double, coefficientsOf, differencesOf, piersOf, sheetsOf, inputOf, Decoded}
-use Rattle.pmf.specs.Pmf.{room, fitOf, outcomeOf, answerText, outcomeText, Listed, written}
+use Rattle.pmf.specs.Pmf.{room, fitOf, outcomeOf, answerText, outcomeText, written}
 
 pub decoded : {a b c e : List Float} {d : List ℕ} (s : List ℕ) (m n : ℕ) → m ≡ termsOf s → n ≡ starsOf s
     → a ≡ coefficientsOf s m → b ≡ differencesOf s n (dhAt m) → c ≡ differencesOf s n (ddAt m) → d ≡ piersOf s m n → e ≡ sheetsOf s m n

@@ -5,9 +5,9 @@ use mathlib.Core.Path.{_≡_}
 use mathlib.Core.Bool.{Bool, true, false, cond}
 use mathlib.Core.List.{List, []}
 use lib.Dec.{leb}
-use lib.ListN.{length, drop, length-append}
+use lib.ListN.{length, length-append}
 use Rattle.listing.specs.Listing.{listingRoom}
-use Rattle.pmf.specs.Pmf.{listed, Listed, written, listedIn}
+use Rattle.pmf.specs.Pmf.{listed, written, listedIn}
 
 pub count-within : (s d : List ℕ) → listedIn s d .count ≤ length (listedIn s d .buffer)
 unfolding listedIn

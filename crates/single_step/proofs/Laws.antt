@@ -1,9 +1,9 @@
 -- What the step of the single-step fit leaves in scratch. Assumes nothing.
-use Prim.Native.Nat.{ℕ, _+_, _-_, _*_, _≤_, _<_}
-use native.Mathlib.Nat.{mul-le-mul-right, add-sub-cancel-left}
+use Prim.Native.Nat.{ℕ, _+_, _-_, _*_, _≤_}
+use native.Mathlib.Nat.{mul-le-mul-right}
 use native.Mathlib.Omega.{arith}
-use mathlib.Core.Path.{_≡_, refl, sym, ap, _∙_}
-use mathlib.Core.List.{List, _++_, zipWith}
+use mathlib.Core.Path.{_≡_, ap, _∙_}
+use mathlib.Core.List.{List, zipWith}
 use lib.ListN.{length, take, drop}
 use lib.Ieee.{Float, binary64, sub, lt, ofBits}
 use Rattle.float.specs.Float.{_⊕_, #0}

@@ -22,7 +22,7 @@ use Rattle.stats.specs.declared.Sky.{Sky}
 use Rattle.stats.specs.Stats.{skyFrom, variance, sigmaAt}
 use Rattle.design.specs.Design.{freeCount, differences, product}
 use Rattle.design.specs.Filled.{differencesTo}
-use Rattle.outcome.specs.Outcome.{starsOf, cosDecs, columnOf, heightOf, diagnosticFrom, threes, resultOf, Outcome, outcome, finished, Fits}
+use Rattle.outcome.specs.Outcome.{starsOf, cosDecs, heightOf, diagnosticFrom, threes, resultOf, Outcome, outcome, finished, Fits}
 use Rattle.outcome.proofs.Laws.{columnTo-at, column-same, differences-same, placed-solved, finishes, answers}
 use Rattle.single_step.specs.SingleStep.{change, newCoefficients, step, freeResiduals, residuals, fitted, decided, fitOutcome, Stepped}
 

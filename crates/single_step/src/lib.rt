@@ -12,7 +12,7 @@ ghost use Rattle.stats.specs.Stats.{skyFrom};
 ghost use Rattle.design.specs.Design.{termAt, sheetAt, cosDec, freeCount, product};
 ghost use Rattle.design.specs.Filled.{columnTo, differencesTo};
 ghost use Rattle.products.specs.Products.{Held};
-ghost use Rattle.validate.specs.Call.{lent, buffers, sizesOf};
+ghost use Rattle.validate.specs.Call.{Lent, lent, buffers, sizesOf};
 ghost use Rattle.validate.specs.Questions.{Ready};
 ghost use Rattle.outcome.specs.Outcome.{outcome, Fits};
 ghost use Rattle.single_step.specs.SingleStep.{toFit, step, changeAt, fitted, fitOutcome, Stepped};
@@ -45,12 +45,14 @@ fn solve(
     fit_tol: f64,
     w: &mut [f64],
 ) -> SolveOutcome
-    requires { ⌜ Fits (lent (now names) (now fixed) (now coefficients) (now dh) (now dd) (now pier) (now sheets) «sin_lat» «cos_lat» «fit_tol») (now w) ⌝ }
-    ensures { λ r. ⌜ (record { outcome = r; w = part (now (w .exit)) (8 * length (now (dh .entry))) (freeCount (now (fixed .entry)) * (2 * length (now (dh .entry)) + 2 * length (now (coefficients .entry)))) }
-        ≡ step (lent (now (names .entry)) (now (fixed .entry)) (now (coefficients .entry)) (now (dh .entry)) (now (dd .entry)) (now (pier .entry)) (now (sheets .entry)) «sin_lat» «cos_lat» «fit_tol»))
-        × (part (now (w .exit)) (4 * length (now (dh .entry))) (2 * length (now (dh .entry)))
-        ≡ toFit (lent (now (names .entry)) (now (fixed .entry)) (now (coefficients .entry)) (now (dh .entry)) (now (dd .entry)) (now (pier .entry)) (now (sheets .entry)) «sin_lat» «cos_lat» «fit_tol»))
-        × Only 0 (8 * length (now (dh .entry)) + length (now (coefficients .entry)) * (2 * length (now (dh .entry)) + 2 * length (now (coefficients .entry)))) (now (w .entry)) (now (w .exit)) ⌝ }
+    ghost { Lent }
+    requires { λ l. ⌜ lent (now names) (now fixed) (now coefficients) (now dh) (now dd) (now pier) (now sheets) «sin_lat» «cos_lat» «fit_tol» ≡ l ⌝ }
+    requires { λ l. ⌜ Fits l (now w) ⌝ }
+    ensures { λ l r. ⌜ (record { outcome = r; w = part (now (w .exit)) (8 * length (l .dh)) (freeCount (now (fixed .entry)) * (2 * length (l .dh) + 2 * length (now (coefficients .entry)))) }
+        ≡ step l)
+        × (part (now (w .exit)) (4 * length (l .dh)) (2 * length (l .dh))
+        ≡ toFit l)
+        × Only 0 (8 * length (l .dh) + length (now (coefficients .entry)) * (2 * length (l .dh) + 2 * length (now (coefficients .entry)))) (now (w .entry)) (now (w .exit)) ⌝ }
 {
     let n = dh.len();
     let rows = 2 * n;
@@ -142,8 +144,10 @@ fn single_step_fit(
     fit_tol: f64,
     w: &mut [f64],
 ) -> Step
-    requires { ⌜ Fits (lent (now names) (now fixed) (now coefficients) (now dh) (now dd) (now pier) (now sheets) «sin_lat» «cos_lat» «fit_tol») (now w) ⌝ }
-    ensures { λ r. ⌜ Stepped (lent (now (names .entry)) (now (fixed .entry)) (now (coefficients .entry)) (now (dh .entry)) (now (dd .entry)) (now (pier .entry)) (now (sheets .entry)) «sin_lat» «cos_lat» «fit_tol») (now (w .entry)) (now (w .exit)) (r .change) (r .coefficients) (r .solved) ⌝ }
+    ghost { Lent }
+    requires { λ l. ⌜ lent (now names) (now fixed) (now coefficients) (now dh) (now dd) (now pier) (now sheets) «sin_lat» «cos_lat» «fit_tol» ≡ l ⌝ }
+    requires { λ l. ⌜ Fits l (now w) ⌝ }
+    ensures { λ l r. ⌜ Stepped l (now (w .entry)) (now (w .exit)) (r .change) (r .coefficients) (r .solved) ⌝ }
 {
     let solved = solve(
         names,
@@ -223,9 +227,11 @@ fn fit(
     diagnostics: &mut [f64],
     scratch: &mut [f64],
 ) -> FitResult
-    requires { ⌜ Ready (lent (now names) (now fixed) (now coefficients) (now dh) (now dd) (now pier) (now sheets) «sin_lat» «cos_lat» «fit_tol») (sizesOf (buffers (now out) (now change) (now sigma) (now diagnostics) (now scratch))) ⌝ }
-    ensures { λ r. ⌜ outcome (Fit.Done r) (buffers (now (out .exit)) (now (change .exit)) (now (sigma .exit)) (now (diagnostics .exit)) (now (scratch .exit)))
-        ≡ fitted (lent (now (names .entry)) (now (fixed .entry)) (now (coefficients .entry)) (now (dh .entry)) (now (dd .entry)) (now (pier .entry)) (now (sheets .entry)) «sin_lat» «cos_lat» «fit_tol») (buffers (now (out .entry)) (now (change .entry)) (now (sigma .entry)) (now (diagnostics .entry)) (now (scratch .entry))) ⌝ }
+    ghost { Lent }
+    requires { λ l. ⌜ lent (now names) (now fixed) (now coefficients) (now dh) (now dd) (now pier) (now sheets) «sin_lat» «cos_lat» «fit_tol» ≡ l ⌝ }
+    requires { λ l. ⌜ Ready l (sizesOf (buffers (now out) (now change) (now sigma) (now diagnostics) (now scratch))) ⌝ }
+    ensures { λ l r. ⌜ outcome (Fit.Done r) (buffers (now (out .exit)) (now (change .exit)) (now (sigma .exit)) (now (diagnostics .exit)) (now (scratch .exit)))
+        ≡ fitted l (buffers (now (out .entry)) (now (change .entry)) (now (sigma .entry)) (now (diagnostics .entry)) (now (scratch .entry))) ⌝ }
 {
     let m = coefficients.len();
     let n = dh.len();

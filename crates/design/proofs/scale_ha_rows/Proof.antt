@@ -1,6 +1,6 @@
 -- `design::scale_ha_rows` meets its contract. The invariant: the rows of the first i stars are scaled. Assumes nothing.
 use Prim.Native.Nat.{ℕ, _≤_, _+_, _-_, _*_}
-use mathlib.Core.Path.{_≡_, refl, ap, _∙_}
+use mathlib.Core.Path.{_≡_, refl}
 use mathlib.Core.List.{List, _++_}
 use native.Mathlib.Nat.{le-refl}
 use lib.ListN.{length, drop, length-set}

@@ -1,6 +1,6 @@
 -- `design::subtract_from_differences` meets its contract. The invariant: the rows of the first i stars are subtracted. Assumes nothing.
 use Prim.Native.Nat.{ℕ, _≤_, _+_, _-_, _*_}
-use mathlib.Core.Path.{_≡_, refl, ap, _∙_}
+use mathlib.Core.Path.{_≡_, refl, _∙_}
 use mathlib.Core.List.{List, _++_}
 use lib.ListN.{length, drop, length-set}
 use lib.Ieee.{Float, binary64, sub}

@@ -1,11 +1,9 @@
 -- `design::weigh` meets its contract. The invariant: the first i of the run are weighed. Assumes nothing.
 use Prim.Native.Nat.{_≤_, _-_}
-use mathlib.Core.Path.{_≡_, refl, sym, ap, _∙_}
+use mathlib.Core.Path.{_≡_, refl, sym}
 use mathlib.Core.Logic.{inl, inr, ⊎-elim}
 use native.Mathlib.Nat.{le-refl}
 use lib.ListN.{length, length-set}
-use lib.Seq.{sets}
-use Rattle.sequence.specs.Sequence.{part}
 use Rattle.sequence.proofs.Parts.{sets-same}
 use Rattle.sequence.proofs.Combine.{Clear, combined, combine-none, combine-step}
 use native.Mathlib.Omega.{arith}

@@ -1,5 +1,5 @@
 -- `design::weighed` meets its contract. Assumes nothing.
-use mathlib.Core.Path.{refl, _∙_}
+use mathlib.Core.Path.{refl}
 use borrow.Author.Needs.{needs}
 use Rattle.design.specs.Design.{weighed}
 use Rattle.design.proofs.weighed.Statement.{statement}

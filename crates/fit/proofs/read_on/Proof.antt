@@ -2,7 +2,6 @@
 use mathlib.Core.Path.{_≡_}
 use lib.ListN.{length}
 use borrow.Author.Needs.{needs}
-use native.Mathlib.Omega.{arith}
 use Rattle.fit.proofs.read_on.Statement.{statement}
 use Rattle.fit.proofs.read_on.Tie as tie
 

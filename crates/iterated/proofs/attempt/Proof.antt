@@ -1,7 +1,6 @@
 -- `iterated::attempt` meets its contract. Assumes nothing.
-use mathlib.Core.Path.{_≡_, refl, _∙_}
+use mathlib.Core.Path.{refl}
 use native.Mathlib.Omega.{arith}
-use lib.ListN.{length}
 use Rattle.validate.specs.Call.{lent}
 use Rattle.iterated.proofs.Laws.{fits-under, within-next, within-front, accepted, accepted-left-by, rejected}
 use borrow.Author.Needs.{needs}

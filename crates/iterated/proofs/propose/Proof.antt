@@ -1,9 +1,6 @@
 -- `iterated::propose` meets its contract. Assumes nothing.
-use mathlib.Core.Path.{_≡_, sym, ap, _∙_}
-use Prim.Native.Nat.{_≤_}
-use native.Mathlib.Omega.{arith}
+use mathlib.Core.Path.{sym, ap, _∙_}
 use lib.ListN.{length, take}
-use lib.Seq.{length-take-le}
 use Rattle.validate.specs.Call.{lent}
 use Rattle.iterated.proofs.Laws.{fits-under, moved-front, moved-length, proposes}
 use borrow.Author.Needs.{needs}

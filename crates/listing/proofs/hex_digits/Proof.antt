@@ -1,7 +1,7 @@
 -- `listing::hex_digits` meets its contract. The invariant: the first i digits are written. Assumes nothing.
 use Prim.Native.Nat.{ℕ, _*_, _-_, _/_, _%_, _^_, _≤_}
 use native.Mathlib.Omega.{arith}
-use mathlib.Core.Path.{_≡_, refl, sym, _∙_}
+use mathlib.Core.Path.{_≡_, refl, _∙_}
 use lib.ListN.{length}
 use Rattle.sequence.specs.Sequence.{filled}
 use Rattle.sequence.proofs.Fills.{filled-none, stored, filled-end, filled-all}

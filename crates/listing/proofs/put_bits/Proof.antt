@@ -1,6 +1,6 @@
 -- `listing::put_bits` meets its contract. Assumes nothing.
 use native.Mathlib.Omega.{arith}
-use mathlib.Core.Path.{_≡_, ap}
+use mathlib.Core.Path.{ap}
 use Rattle.listing.specs.Text.{hexadecimal, bitsOf}
 use borrow.Author.Needs.{needs}
 use Rattle.listing.proofs.put_bits.Statement.{statement}

@@ -1,5 +1,4 @@
 -- `lm_system::chi2_at_state` meets its contract. Assumes nothing.
-use native.Mathlib.Omega.{arith}
 use borrow.Author.Needs.{needs}
 use Rattle.validate.specs.Call.{lent}
 use Rattle.lm_system.proofs.Laws.{chi2-is}

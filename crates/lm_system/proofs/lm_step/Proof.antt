@@ -1,8 +1,6 @@
 -- `lm_system::lm_step` meets its contract. Assumes nothing.
 use mathlib.Core.Path.{_∙_}
-use Prim.Native.Nat.{_*_}
 use native.Mathlib.Omega.{arith}
-use lib.ListN.{length}
 use borrow.Author.Needs.{needs}
 use Rattle.validate.specs.Call.{lent}
 use Rattle.outcome.proofs.Laws.{columns-room, solve-ready}
