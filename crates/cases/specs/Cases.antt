@@ -26,7 +26,7 @@ use Rattle.terms.specs.declared.answer.Jacobian.{Jacobian}
 use Rattle.terms.specs.declared.answer.Jacobian.the-variants.{Given}
 use Rattle.solver.specs.declared.Fit.{Fit}
 use Rattle.solver.specs.declared.Fit.the-variants.{Done, Refused}
-use Rattle.validate.specs.Call.{Lent, Buffers, lent, buffers}
+use Rattle.solver.specs.Call.{FitInputs, Buffers, inputs, buffers}
 use Rattle.validate.specs.Questions.{scratchNeeded}
 use Rattle.solver.specs.Records.{defaults}
 use Rattle.solver.specs.declared.IterOptions.{IterOptions}
@@ -108,10 +108,10 @@ stills zero = []
 stills (suc n) = still ++ stills n
 
 -- ID free at 0, and East stars with that sheet, with hour-angle differences 0 and these declination differences; latitude 0, fit_tol 0
-abbrev pub run : List Float → Lent
+abbrev pub run : List Float → FitInputs
 run dd =
     let n = length dd in
-    lent (slot "ID") (0 ∷ []) (#0 ∷ []) (replicate n #0) dd (replicate n east) (stills n) #0 #1 #0
+    inputs (slot "ID") (0 ∷ []) (#0 ∷ []) (replicate n #0) dd (replicate n east) (stills n) #0 #1 #0
 
 -- buffers of just the size
 abbrev pub exact : ℕ → Buffers

@@ -22,7 +22,7 @@ use Rattle.solver.specs.declared.Fit.{Fit}
 use Rattle.solver.specs.declared.Fit.the-variants.{Done, Refused}
 use Rattle.solver.specs.declared.FitResult.{FitResult}
 use Rattle.solver.specs.declared.IterOptions.{IterOptions}
-use Rattle.validate.specs.Call.{Lent, Buffers}
+use Rattle.solver.specs.Call.{FitInputs, Buffers}
 use Rattle.design.specs.Design.{isFree}
 use Rattle.outcome.specs.Outcome.{resultOf, Outcome, outcome, finished}
 use Rattle.lm_system.specs.System.{residuals, hour, dec, chi2Of, movedAt, moved}
@@ -39,18 +39,18 @@ differences-fit (x ∷ xs) [] k = nan-fits binary64
 differences-fit (x ∷ xs) (y ∷ ys) zero = sub-fits binary64 x y
 differences-fit (x ∷ xs) (y ∷ ys) (suc k) = differences-fit xs ys k
 
-made : (l : Lent) (i : ℕ) → T (fits binary64 (hour l i)) × T (fits binary64 (dec l i))
+made : (l : FitInputs) (i : ℕ) → T (fits binary64 (hour l i)) × T (fits binary64 (dec l i))
 unfolding residuals
 made l i = (mul-fits binary64 _ _, differences-fit _ _ (2 * i + 1))
 
 -- ---- a step keeps the length of a set and its fixed terms
 
 -- s has the length and the fixed terms of the start
-pub record Kept (l : Lent) (s : List Float) : Type 0 where
+pub record Kept (l : FitInputs) (s : List Float) : Type 0 where
   pub long : length s ≡ length (l .coefficients)
   pub fixed : (j : ℕ) → j < length (l .coefficients) → isFree (l .fixed) j ≡ false → at s j ≡ at (l .coefficients) j
 
-moved-kept : (l : Lent) (x s : List Float) → Kept l s → Kept l (moved (l .fixed) x s)
+moved-kept : (l : FitInputs) (x s : List Float) → Kept l s → Kept l (moved (l .fixed) x s)
 unfolding moved
 moved-kept l x s k =
     record {
@@ -58,7 +58,7 @@ moved-kept l x s k =
       fixed = λ j h e. at-table (movedAt (l .fixed) x s) (length s) j (omega (arith, k .long)) ∙ rw e (k .fixed j h e);
     }
 
-module _ (l : Lent) (o : IterOptions) where
+module _ (l : FitInputs) (o : IterOptions) where
   -- the chi-square that the loop holds is that of the set in hand
   abbrev Known : Report → Type 0
   Known r = r .how .«prev_chi2» ≡ chi2At l (r .set)
@@ -135,7 +135,7 @@ module _ (l : Lent) (o : IterOptions) where
   unfolding chi2Of
   is-chi s = refl
 
-pub best-of-tried : (l : Lent) (o : IterOptions) → length (l .dh) ≤ 1024
+pub best-of-tried : (l : FitInputs) (o : IterOptions) → length (l .dh) ≤ 1024
     → BestOfTried l o (lastSet l o (lmLoop l o .how .«prev_chi2») (lmLoop l o .set)) (lmLoop l o .how .iterations)
 best-of-tried l o few =
     let p = trials l o in
@@ -157,7 +157,7 @@ iterations-of : Fit → ℕ
 iterations-of (Done r) = r .«iter_report» .iterations
 iterations-of (Refused k) = 0
 
-pub fitted-demand : (l : Lent) (o : IterOptions) (b left : Buffers) (r : FitResult) → length (l .dh) ≤ 1024 → outcome (Done r) left ≡ fitted l o b
+pub fitted-demand : (l : FitInputs) (o : IterOptions) (b left : Buffers) (r : FitResult) → length (l .dh) ≤ 1024 → outcome (Done r) left ≡ fitted l o b
     → Demand3 l o (Done r) (left .coefficients)
 unfolding fitted finished resultOf iterations-of
 fitted-demand l o b left r few e =

@@ -16,7 +16,7 @@ use Rattle.best.proofs.Turns.{goes-on, is-left}
 use Rattle.linalg.specs.declared.SolveOutcome.{SolveOutcome}
 use Rattle.linalg.specs.Linalg.{Solved}
 use Rattle.solver.specs.declared.IterOptions.{IterOptions}
-use Rattle.validate.specs.Call.{Lent}
+use Rattle.solver.specs.Call.{FitInputs}
 use Rattle.design.specs.Design as Design
 use Rattle.design.specs.Design.{freeCount, freeProduct}
 use Rattle.products.specs.Products.{weighedTo}
@@ -28,7 +28,7 @@ use Rattle.iterated.specs.declared.Trial.the-variants.{Accepted, Rejecte
 use Rattle.iterated.specs.Iterated.{under, chi2At, Tried, triedTo, trialOf, Report, report, hopeless, answered, leaves, trials, lastStep, lastSet, lastChi2, freeResiduals, Within, Proposed, LastTried}
 
 -- the same call with another set
-pub fits-under : (l : Lent) (s w v : List Float) → Fits l w → length s ≡ length (l .coefficients) → length v ≡ length w → Fits (under l s) v
+pub fits-under : (l : FitInputs) (s w v : List Float) → Fits l w → length s ≡ length (l .coefficients) → length v ≡ length w → Fits (under l s) v
 fits-under l s w v f e long =
     let same : heightOf (under l s) ≡ heightOf l = ap (λ (m : ℕ). 2 * length (l .dh) + 2 * m) e in
     record {
@@ -44,14 +44,14 @@ fits-under l s w v f e long =
     }
 
 -- scratch after one more step from a set of as many coefficients
-pub within-next : (l : Lent) (s w₀ w w′ : List Float) → length s ≡ length (l .coefficients) → Within l w₀ w → Within (under l s) w w′ → Within l w₀ w′
+pub within-next : (l : FitInputs) (s w₀ w w′ : List Float) → length s ≡ length (l .coefficients) → Within l w₀ w → Within (under l s) w w′ → Within l w₀ w′
 within-next l s w₀ w w′ e o p =
     let size : length s * heightOf (under l s) ≡ length (l .coefficients) * heightOf l = ap (λ (m : ℕ). m * (2 * length (l .dh) + 2 * m)) e in
     let p′ : Within l w w′ = subst (λ (k : ℕ). Only 0 (8 * length (l .dh) + k) w w′) size p in
     only-then 0 (8 * length (l .dh) + length (l .coefficients) * heightOf l) w₀ w w′ o p′
 
 -- where the first stars' parts alone have changed
-pub within-front : (l : Lent) (w w′ : List Float) → Only 0 (4 * length (l .dh)) w w′ → Within l w w′
+pub within-front : (l : FitInputs) (w w′ : List Float) → Only 0 (4 * length (l .dh)) w w′ → Within l w w′
 within-front l w w′ o = only-wider 0 (4 * length (l .dh)) 0 (8 * length (l .dh) + length (l .coefficients) * heightOf l) w w′ (omega arith) (omega arith) o
 
 pub moved-length : (fixed : List ℕ) (x s : List Float) → length (moved fixed x s) ≡ length s
@@ -65,7 +65,7 @@ moved-front fixed x s t e = ap (take (length s)) e ∙ take-filled (movedAt fixe
 
 -- ---- a proposal: w₁ after the step, w₂ after the chi-square of the set that it leads to
 
-pub proposes : (l : Lent) (k lambda : Float) (w w₁ w₂ set : List Float) (chi2 : Float) (a : SolveOutcome) → Fits l w → LmStepped l k lambda w w₁ a
+pub proposes : (l : FitInputs) (k lambda : Float) (w w₁ w₂ set : List Float) (chi2 : Float) (a : SolveOutcome) → Fits l w → LmStepped l k lambda w w₁ a
     → set ≡ filled (length (l .coefficients)) (movedAt (l .fixed) (a .x) (l .coefficients)) zeros
     → (chi2 ≡ chi2At l (take (length (l .coefficients)) set)) × Left (under l (take (length (l .coefficients)) set)) w₂ × Only 0 (4 * length (l .dh)) w₁ w₂
     → Proposed l k lambda w w₂ set chi2 a
@@ -93,7 +93,7 @@ copied m t s s′ h e q = q ∙ filled-all (at t) m s (omega arith) ∙ table-fr
 
 -- ---- a trial from the set in hand, the coefficients of l, whose proposal is given
 
-module _ (l : Lent) (o : IterOptions) (chi2 lambda k : Float) (ek : k ≡ huberK l o chi2) (w w′ set : List Float) (next : Float) (a : SolveOutcome) (f : Fits l w)
+module _ (l : FitInputs) (o : IterOptions) (chi2 lambda k : Float) (ek : k ≡ huberK l o chi2) (w w′ set : List Float) (next : Float) (a : SolveOutcome) (f : Fits l w)
     (p : Proposed l k lambda w w′ set next a) where
   x-is : a .x ≡ lmStep l (huberK l o chi2) lambda .outcome .x
   x-is = ap (λ (s : Solved). s .outcome .x) (p .step .solution) ∙ ap (λ (z : Float). lmStep l z lambda .outcome .x) ek
@@ -121,13 +121,13 @@ module _ (l : Lent) (o : IterOptions) (chi2 lambda k : Float) (ek : k ≡ huberK
   rejected h = rw (← next-is, h)
 
 -- the same with the start in the place of the coefficients
-pub trial-same : (l : Lent) (s : List Float) (o : IterOptions) (chi2 lambda : Float) → trialOf (under l s) o chi2 lambda s ≡ trialOf l o chi2 lambda s
+pub trial-same : (l : FitInputs) (s : List Float) (o : IterOptions) (chi2 lambda : Float) → trialOf (under l s) o chi2 lambda s ≡ trialOf l o chi2 lambda s
 unfolding trialOf
 trial-same l s o chi2 lambda = refl
 
 -- ---- the loop holds a report, and a trial from it gave r and left the set y
 
-module _ (l : Lent) (o : IterOptions) (whole : Report) (set : List Float) (chi2 lambda norm : Float) (i : ℕ) (more : i < o .«max_iter»)
+module _ (l : FitInputs) (o : IterOptions) (whole : Report) (set : List Float) (chi2 lambda norm : Float) (i : ℕ) (more : i < o .«max_iter»)
     (inv : whole ≡ after (trials l o) (o .«max_iter» - i) (report set i false lambda norm chi2)) (r : Trial) (y : List Float) (did : triedTo r y ≡ trialOf l o chi2 lambda set) where
   turned : answered o (report set i false lambda norm chi2) r y ≡ trials l o .turn (report set i false lambda norm chi2)
   turned = ap (λ (t : Tried). answered o (report set i false lambda norm chi2) (t .answer) (t .set)) did
@@ -151,7 +151,7 @@ module _ (l : Lent) (o : IterOptions) (whole : Report) (set : List Float) (chi2 
 
 -- ---- the last trial: its proposal, and the residuals that come after it
 
-module _ (l : Lent) (o : IterOptions) (chi2 k : Float) (ek : k ≡ huberK l o chi2) (w w₁ w₂ set : List Float) (last : Float) (a : SolveOutcome) (f : Fits l w)
+module _ (l : FitInputs) (o : IterOptions) (chi2 k : Float) (ek : k ≡ huberK l o chi2) (w w₁ w₂ set : List Float) (last : Float) (a : SolveOutcome) (f : Fits l w)
     (p : Proposed l k #0 w w₁ set last a)
     (q : (part w₂ (2 * length (l .pier)) (2 * length (l .pier)) ≡ zipWith (sub binary64) (part w₁ (4 * length (l .pier)) (2 * length (l .pier)))
     (freeProduct (2 * length (l .pier)) (length (l .fixed)) (l .fixed) (a .x) (weighedTo k (part w₁ (6 * length (l .pier)) (2 * length (l .pier))) (l .sinLat) (l .cosLat) (l .names) (l .pier) (l .sheets))))

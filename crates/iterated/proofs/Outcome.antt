@@ -13,7 +13,7 @@ use Rattle.sequence.proofs.Fills.{filled-front}
 use Rattle.sequence.proofs.Only.{only-none}
 use Rattle.linalg.specs.declared.SolveOutcome.{SolveOutcome}
 use Rattle.linalg.specs.Linalg.{Placed, leverageOf, solved, solvedDamped}
-use Rattle.validate.specs.Call.{Lent, Buffers, buffers, sizesOf}
+use Rattle.solver.specs.Call.{FitInputs, Buffers, buffers, sizesOf}
 use Rattle.validate.specs.Questions.{scratchNeeded, asked}
 use Rattle.validate.specs.declared.Asked.{Asked}
 use Rattle.validate.specs.declared.Asked.the-variants.{Pass, No}
@@ -36,12 +36,12 @@ use Rattle.iterated.proofs.Best.{known-end, kept-end, fitted-demand}
 -- ---- the parts of an accepted fit; w is the scratch after the search
 
 -- a step without damping: the columns and residuals that are solved
-undamped : (l : Lent) (k : Float) → (a : List Float) × (b : List Float) × (lmStep l k #0 ≡ solved (heightOf l) (rowsOf l) (freeCount (l .fixed)) a b (l .fitTol))
+undamped : (l : FitInputs) (k : Float) → (a : List Float) × (b : List Float) × (lmStep l k #0 ≡ solved (heightOf l) (rowsOf l) (freeCount (l .fixed)) a b (l .fitTol))
 unfolding lmStep solvedDamped le ofBits
 undamped l k = (_, _, refl)
 
 -- the solved columns lie in w
-pub placed-last : (l : Lent) (o : IterOptions) (w₀ w set : List Float) (chi2 : Float) (how : LmLoopResult) (a : SolveOutcome) → Fits l w₀ → Searched l o w₀ w set chi2 how a
+pub placed-last : (l : FitInputs) (o : IterOptions) (w₀ w set : List Float) (chi2 : Float) (how : LmLoopResult) (a : SolveOutcome) → Fits l w₀ → Searched l o w₀ w set chi2 how a
     → (8 * length (l .dh) + freeCount (l .fixed) * heightOf l ≤ length w)
     × Placed (heightOf l) (part w (8 * length (l .dh)) (freeCount (l .fixed) * heightOf l)) (take (freeCount (l .fixed)) (a .order))
     × (length (take (freeCount (l .fixed)) (a .order)) ≡ freeCount (l .fixed))
@@ -52,13 +52,13 @@ placed-last l o w₀ w set chi2 how a f st =
     placed-solved l w₀ w (q .0) (q .1) a f (st .last .only .long) (st .last .solution ∙ q .2 ∙ e)
 
 -- what its chi-square says of a set on the sky
-sky-is : (l : Lent) (s : List Float) (free : ℕ)
+sky-is : (l : FitInputs) (s : List Float) (free : ℕ)
     → record { rms = rmsOf (length (l .dh)) (chi2At l s); «popn_sd» = sdOf (length (l .dh)) free (chi2At l s) } ≡ skyFrom (length (l .dh)) (cosDecs l) free (residuals (under l s))
 unfolding chi2Of chi skyRms popnSd sumSqSky
 sky-is l s free = refl
 
 -- the chi-square that the last trial leaves is that of its set
-least-at : (l : Lent) (o : IterOptions) → lastChi2 l o (lmLoop l o .how .«prev_chi2») (lmLoop l o .set) ≡ chi2At l (lastSet l o (lmLoop l o .how .«prev_chi2») (lmLoop l o .set))
+least-at : (l : FitInputs) (o : IterOptions) → lastChi2 l o (lmLoop l o .how .«prev_chi2») (lmLoop l o .set) ≡ chi2At l (lastSet l o (lmLoop l o .how .«prev_chi2») (lmLoop l o .set))
 unfolding lastChi2 lastSet
 least-at l o = go (le (chi2At l (proposal l o chi2 #0 s)) chi2)
   where
@@ -72,7 +72,7 @@ least-at l o = go (le (chi2At l (proposal l o chi2 #0 s)) chi2)
     go true = refl
     go false = known-end l o
 
-pub whole : (l : Lent) (o : IterOptions) (b : Buffers) (w zs set moved out′ change′ sigma′ diag′ : List Float) (chi2 : Float) (how : LmLoopResult) (a : SolveOutcome) (free need : ℕ) (sky : Sky)
+pub whole : (l : FitInputs) (o : IterOptions) (b : Buffers) (w zs set moved out′ change′ sigma′ diag′ : List Float) (chi2 : Float) (how : LmLoopResult) (a : SolveOutcome) (free need : ℕ) (sky : Sky)
     → Fits l (b .scratch) → free ≡ freeCount (l .fixed) → need ≡ scratchNeeded (length (l .coefficients)) (length (l .dh))
     → Searched l o (b .scratch) w set chi2 how a
     → moved ≡ filled (length (l .coefficients)) (λ j. at (take (length (l .coefficients)) set) j ⊖ at (l .coefficients) j) zeros
@@ -113,12 +113,12 @@ whole l o b w zs set moved out′ change′ sigma′ diag′ chi2′ how a free 
 
 -- ---- a call by the answer of its questions
 
-pub refused : (l : Lent) (o : IterOptions) (b : Buffers) (k : ℕ) (a : Asked) → a ≡ No k → a ≡ asked l o (sizesOf b)
+pub refused : (l : FitInputs) (o : IterOptions) (b : Buffers) (k : ℕ) (a : Asked) → a ≡ No k → a ≡ asked l o (sizesOf b)
     → (outcome (Refused k) b ≡ iteratedOutcome l o b) × Demand3 l o (Refused k) (b .coefficients)
 unfolding iteratedOutcome
 refused l o b k a e q = (ap (λ z. decided z l o b) (sym e ∙ q), tt)
 
-pub accepted : (l : Lent) (o : IterOptions) (b : Buffers) (out change sigma diag scratch : List Float) (r : FitResult) (free : ℕ) (a : Asked) → a ≡ Pass free → a ≡ asked l o (sizesOf b)
+pub accepted : (l : FitInputs) (o : IterOptions) (b : Buffers) (out change sigma diag scratch : List Float) (r : FitResult) (free : ℕ) (a : Asked) → a ≡ Pass free → a ≡ asked l o (sizesOf b)
     → outcome (Done r) (buffers out change sigma diag scratch) ≡ fitted l o b
     → (outcome (Done r) (buffers out change sigma diag scratch) ≡ iteratedOutcome l o b) × Demand3 l o (Done r) out
 unfolding iteratedOutcome

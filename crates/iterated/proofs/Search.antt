@@ -12,7 +12,7 @@ use Rattle.sequence.proofs.Only.{only-none}
 use Rattle.column.specs.Column.{zeros}
 use Rattle.linalg.specs.declared.SolveOutcome.{SolveOutcome}
 use Rattle.solver.specs.declared.IterOptions.{IterOptions}
-use Rattle.validate.specs.Call.{Lent}
+use Rattle.solver.specs.Call.{FitInputs}
 use Rattle.design.specs.Design.{freeCount}
 use Rattle.outcome.specs.Outcome.{heightOf, Fits}
 use Rattle.lm_system.specs.System.{Left}
@@ -42,7 +42,7 @@ module _ (m : ℕ) (p ys : List Float) (few : m ≤ 32) (long : length p ≡ 32)
 
 -- ---- the last trial from a set of as many coefficients as the start
 
-pub last-under : (l : Lent) (o : IterOptions) (chi2 : Float) (s w₀ w set : List Float) (least : Float) (a : SolveOutcome) → length s ≡ length (l .coefficients)
+pub last-under : (l : FitInputs) (o : IterOptions) (chi2 : Float) (s w₀ w set : List Float) (least : Float) (a : SolveOutcome) → length s ≡ length (l .coefficients)
     → LastTried (under l s) o chi2 s w₀ w set least a → LastTried l o chi2 s w₀ w set least a
 unfolding lastSet lastChi2 freeResiduals
 last-under l o chi2 s w₀ w set least a e t =
@@ -57,7 +57,7 @@ last-under l o chi2 s w₀ w set least a e t =
 
 -- ---- the search: an array p with the start at its front; the loop leaves ys there and w₁ in scratch, the last trial zs and w₂
 
-pub searches : (l : Lent) (o : IterOptions) (p ys zs w w₁ w₂ : List Float) (how : LmLoopResult) (least : Float) (a : SolveOutcome) → Fits l w
+pub searches : (l : FitInputs) (o : IterOptions) (p ys zs w w₁ w₂ : List Float) (how : LmLoopResult) (least : Float) (a : SolveOutcome) → Fits l w
     → p ≡ filled (length (l .coefficients)) (at (l .coefficients)) zeros
     → length ys ≡ length (take (length (l .coefficients)) p)
     → (record { set = ys; how = how } ≡ lmLoop (under l (take (length (l .coefficients)) p)) o) × Within (under l (take (length (l .coefficients)) p)) w w₁ × Left (under l ys) w₁

@@ -11,25 +11,25 @@ use Rattle.best.specs.Trials.{tried}
 use Rattle.solver.specs.declared.Fit.{Fit}
 use Rattle.solver.specs.declared.Fit.the-variants.{Done, Refused}
 use Rattle.solver.specs.declared.IterOptions.{IterOptions}
-use Rattle.validate.specs.Call.{Lent}
+use Rattle.solver.specs.Call.{FitInputs}
 use Rattle.design.specs.Design.{isFree}
 use Rattle.lm_system.specs.System.{hour, dec}
 use Rattle.iterated.specs.Iterated.{under, trials, begin}
 
 -- the sets tried: the start as lent, what each trial proposes, kept or rejected, and what the undamped trial proposes
-abbrev pub triedSets : Lent → IterOptions → List (List Float)
+abbrev pub triedSets : FitInputs → IterOptions → List (List Float)
 triedSets l o = tried (trials l o) (o .«max_iter») (begin l o)
 
 -- the exact chi-square of a set: the sum of the exact squares of its weighted residuals, as a fraction
-abbrev pub exactSumAt : Lent → List Float → Frac
+abbrev pub exactSumAt : FitInputs → List Float → Frac
 exactSumAt l s = exactSum (hour (under l s)) (dec (under l s)) (length (l .dh))
 
 -- each of them is zero or of a size from 2 ^ -400 to 2 ^ 400
-abbrev pub TameAt : Lent → List Float → Type 0
+abbrev pub TameAt : FitInputs → List Float → Type 0
 TameAt l s = AllTame (hour (under l s)) (dec (under l s)) (length (l .dh))
 
 -- the set s is returned, after so many iterations; `AtMost`: at most (1 + 2 ^ -41) times as much
-pub record BestOfTried (l : Lent) (o : IterOptions) (s : List Float) (iterations : ℕ) : Type 0 where
+pub record BestOfTried (l : FitInputs) (o : IterOptions) (s : List Float) (iterations : ℕ) : Type 0 where
   pub listed : List·Memᴰ s (triedSets l o)
   pub best : (other : List Float) → List·Memᴰ other (triedSets l o) → TameAt l other → TameAt l s → AtMost (exactSumAt l s) (exactSumAt l other)
   pub kept : (j : ℕ) → j < length (l .coefficients) → isFree (l .fixed) j ≡ false → at s j ≡ at (l .coefficients) j
@@ -37,6 +37,6 @@ pub record BestOfTried (l : Lent) (o : IterOptions) (s : List Float) (iterations
   pub limited : iterations ≤ o .«max_iter»
 
 -- of a call: its answer, and what the answer's coefficients hold at the end, m of which are the set
-abbrev pub Demand3 : Lent → IterOptions → Fit → List Float → Type 0
+abbrev pub Demand3 : FitInputs → IterOptions → Fit → List Float → Type 0
 Demand3 l o (Done r) out = BestOfTried l o (take (length (l .coefficients)) out) (r .«iter_report» .iterations)
 Demand3 l o (Refused k) out = Unit {0}

@@ -15,7 +15,7 @@ use Rattle.linalg.specs.Linalg.{Solved}
 use Rattle.solver.specs.declared.Fit.the-variants.{Refused}
 use Rattle.solver.specs.declared.IterOptions.{IterOptions}
 use Rattle.solver.specs.declared.IterReport.{IterReport}
-use Rattle.validate.specs.Call.{Lent, Buffers, lent, sizesOf}
+use Rattle.solver.specs.Call.{FitInputs, Buffers, inputs, sizesOf}
 use Rattle.validate.specs.Questions.{asked}
 use Rattle.validate.specs.declared.Asked.{Asked}
 use Rattle.validate.specs.declared.Asked.the-variants.{Pass, No}
@@ -29,17 +29,17 @@ use Rattle.iterated.specs.declared.Trial.the-variants.{Accepted, Rejecte
 -- ---- one trial
 
 -- the call with another set in the place of its coefficients
-abbrev pub under : Lent → List Float → Lent
-under l s = lent (l .names) (l .fixed) s (l .dh) (l .dd) (l .pier) (l .sheets) (l .sinLat) (l .cosLat) (l .fitTol)
+abbrev pub under : FitInputs → List Float → FitInputs
+under l s = inputs (l .names) (l .fixed) s (l .dh) (l .dd) (l .pier) (l .sheets) (l .sinLat) (l .cosLat) (l .fitTol)
 
-abbrev pub chi2At : Lent → List Float → Float
+abbrev pub chi2At : FitInputs → List Float → Float
 chi2At l s = chi2Of (under l s)
 
 -- the step from a set whose chi-square is known, at a damping; and the set that it proposes
-abbrev pub stepFrom : Lent → IterOptions → Float → Float → List Float → Solved
+abbrev pub stepFrom : FitInputs → IterOptions → Float → Float → List Float → Solved
 stepFrom l o chi2 lambda s = lmStep (under l s) (huberK l o chi2) lambda
 
-abbrev pub proposal : Lent → IterOptions → Float → Float → List Float → List Float
+abbrev pub proposal : FitInputs → IterOptions → Float → Float → List Float → List Float
 proposal l o chi2 lambda s = moved (l .fixed) (stepFrom l o chi2 lambda s .outcome .x) s
 
 -- its answer, and the set in hand after it
@@ -51,7 +51,7 @@ abbrev pub triedTo : Trial → List Float → Tried
 triedTo answer set = record { answer = answer; set = set }
 
 -- kept where its chi-square is strictly below the current one
-unfoldable pub trialOf : Lent → IterOptions → Float → Float → List Float → Tried
+unfoldable pub trialOf : FitInputs → IterOptions → Float → Float → List Float → Tried
 trialOf l o chi2 lambda s =
     let x = stepFrom l o chi2 lambda s .outcome .x in
     let t = moved (l .fixed) x s in
@@ -84,10 +84,10 @@ abbrev pub leaves : IterOptions → Trial → Bool
 leaves o (Accepted chi2 norm) = lt norm (o .«tol_rad»)
 leaves o (Rejected lambda) = lt hopeless lambda
 
-abbrev pub trialAt : Lent → IterOptions → Report → Tried
+abbrev pub trialAt : FitInputs → IterOptions → Report → Tried
 trialAt l o r = trialOf l o (r .how .«prev_chi2») (r .how .lambda) (r .set)
 
-abbrev pub trials : Lent → IterOptions → Trials Report (List Float)
+abbrev pub trials : FitInputs → IterOptions → Trials Report (List Float)
 trials l o = record {
   score = chi2At l;
   set = λ r. r .set;
@@ -98,31 +98,31 @@ trials l o = record {
 }
 
 -- the start as lent
-abbrev pub begin : Lent → IterOptions → Report
+abbrev pub begin : FitInputs → IterOptions → Report
 begin l o = report (l .coefficients) 0 false (o .«initial_lambda») (inf false) (chi2At l (l .coefficients))
 
-unfoldable pub lmLoop : Lent → IterOptions → Report
+unfoldable pub lmLoop : FitInputs → IterOptions → Report
 lmLoop l o = after (trials l o) (o .«max_iter») (begin l o)
 
 -- ---- the undamped trial at the end, from the set in hand and its chi-square
 
-abbrev pub lastStep : Lent → IterOptions → Float → List Float → Solved
+abbrev pub lastStep : FitInputs → IterOptions → Float → List Float → Solved
 lastStep l o chi2 s = stepFrom l o chi2 #0 s
 
 -- apply_final_step: kept where it is not above
-unfoldable pub lastSet : Lent → IterOptions → Float → List Float → List Float
+unfoldable pub lastSet : FitInputs → IterOptions → Float → List Float → List Float
 lastSet l o chi2 s =
     let t = proposal l o chi2 #0 s in
     cond (le (chi2At l t) chi2) t s
 
 -- the chi-square of that set, where that of s is chi2
-unfoldable pub lastChi2 : Lent → IterOptions → Float → List Float → Float
+unfoldable pub lastChi2 : FitInputs → IterOptions → Float → List Float → Float
 lastChi2 l o chi2 s =
     let last = chi2At l (proposal l o chi2 #0 s) in
     cond (le last chi2) last chi2
 
 -- b_final - a_free_final * x, kept or not
-unfoldable pub freeResiduals : Lent → IterOptions → Float → List Float → List Float
+unfoldable pub freeResiduals : FitInputs → IterOptions → Float → List Float → List Float
 freeResiduals l o chi2 s =
     let k = huberK l o chi2 in
     let a = weighedColumn (under l s) k in
@@ -131,14 +131,14 @@ freeResiduals l o chi2 s =
 -- ---- fit_model_iterated
 
 -- the set less the start, in an array
-unfoldable pub change : Lent → List Float → List Float
+unfoldable pub change : FitInputs → List Float → List Float
 change l s = filled (length (l .coefficients)) (λ j. at s j ⊖ at (l .coefficients) j) zeros
 
 abbrev pub reported : LmLoopResult → IterReport
 reported how =
     record { iterations = how .iterations; converged = how .converged; «final_lambda» = how .lambda; «final_step_norm» = how .«last_step_norm» }
 
-unfoldable pub fitted : Lent → IterOptions → Buffers → Outcome
+unfoldable pub fitted : FitInputs → IterOptions → Buffers → Outcome
 fitted l o b =
     let r = lmLoop l o in
     let chi2 = r .how .«prev_chi2» in
@@ -146,21 +146,21 @@ fitted l o b =
     let last = lastStep l o chi2 (r .set) in
     finished l b s (change l s) last (freeResiduals l o chi2 (r .set)) (resultOf l (last .outcome) (residuals (under l s)) (reported (r .how)))
 
-abbrev pub decided : Asked → Lent → IterOptions → Buffers → Outcome
+abbrev pub decided : Asked → FitInputs → IterOptions → Buffers → Outcome
 decided (Pass free) l o b = fitted l o b
 decided (No k) l o b = outcome (Refused k) b
 
-unfoldable pub iteratedOutcome : Lent → IterOptions → Buffers → Outcome
+unfoldable pub iteratedOutcome : FitInputs → IterOptions → Buffers → Outcome
 iteratedOutcome l o b = decided (asked l o (sizesOf b)) l o b
 
 -- ---- what the functions leave
 
 -- scratch changes nowhere but in the part that belongs to the stars and columns
-abbrev pub Within : Lent → List Float → List Float → Type 0
+abbrev pub Within : FitInputs → List Float → List Float → Type 0
 Within l = Only 0 (8 * length (l .dh) + length (l .coefficients) * heightOf l)
 
 -- a step from the set in hand, the coefficients of l: what it proposes, at the front of an array, its chi-square, and what lies in scratch
-pub record Proposed (l : Lent) (k lambda : Float) (w₀ w set : List Float) (chi2 : Float) (a : SolveOutcome) : Type 0 where
+pub record Proposed (l : FitInputs) (k lambda : Float) (w₀ w set : List Float) (chi2 : Float) (a : SolveOutcome) : Type 0 where
   pub step : LmStepped l k lambda w₀ w a
   pub trial : take (length (l .coefficients)) set ≡ moved (l .fixed) (a .x) (l .coefficients)
   pub long : length set ≡ 32
@@ -168,7 +168,7 @@ pub record Proposed (l : Lent) (k lambda : Float) (w₀ w set : List Float) (chi
   pub left : Left (under l (moved (l .fixed) (a .x) (l .coefficients))) w
 
 -- the last trial: the set and its chi-square, the solver's answer with its columns, and the free terms' residuals
-pub record LastTried (l : Lent) (o : IterOptions) (chi2 : Float) (s w₀ w set : List Float) (least : Float) (a : SolveOutcome) : Type 0 where
+pub record LastTried (l : FitInputs) (o : IterOptions) (chi2 : Float) (s w₀ w set : List Float) (least : Float) (a : SolveOutcome) : Type 0 where
   pub kept : set ≡ lastSet l o chi2 s
   pub least-is : least ≡ lastChi2 l o chi2 s
   pub solution : record { outcome = a; w = part w (8 * length (l .dh)) (freeCount (l .fixed) * heightOf l) } ≡ lastStep l o chi2 s
@@ -176,7 +176,7 @@ pub record LastTried (l : Lent) (o : IterOptions) (chi2 : Float) (s w₀ w set :
   pub only : Within l w₀ w
 
 -- the search as a whole, with the set at the front of an array
-pub record Searched (l : Lent) (o : IterOptions) (w₀ w set : List Float) (chi2 : Float) (how : LmLoopResult) (a : SolveOutcome) : Type 0 where
+pub record Searched (l : FitInputs) (o : IterOptions) (w₀ w set : List Float) (chi2 : Float) (how : LmLoopResult) (a : SolveOutcome) : Type 0 where
   pub came : how ≡ lmLoop l o .how
   pub last : LastTried l o (lmLoop l o .how .«prev_chi2») (lmLoop l o .set) w₀ w (take (length (l .coefficients)) set) chi2 a
   pub long : length set ≡ 32

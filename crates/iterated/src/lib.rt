@@ -7,7 +7,7 @@ ghost use lib.ListN.{length};
 ghost use Rattle.float.specs.Float.{_⊖_};
 ghost use Rattle.sequence.specs.Sequence.{at, filled, Only};
 ghost use Rattle.column.specs.Column.{zeros};
-ghost use Rattle.validate.specs.Call.{Lent, lent, buffers, sizesOf};
+ghost use Rattle.solver.specs.Call.{FitInputs, inputs, buffers, sizesOf};
 ghost use Rattle.validate.specs.Questions.{Ready};
 ghost use Rattle.outcome.specs.Outcome.{outcome, Fits};
 ghost use Rattle.lm_system.specs.System.{Left};
@@ -60,8 +60,8 @@ fn propose(
     lambda: f64,
     w: &mut [f64],
 ) -> Proposal
-    ghost { Lent }
-    requires { λ l. ⌜ lent (now names) (now fixed) (now set) (now dh) (now dd) (now pier) (now sheets) «sin_lat» «cos_lat» «fit_tol» ≡ l ⌝ }
+    ghost { FitInputs }
+    requires { λ l. ⌜ inputs (now names) (now fixed) (now set) (now dh) (now dd) (now pier) (now sheets) «sin_lat» «cos_lat» «fit_tol» ≡ l ⌝ }
     requires { λ l. ⌜ Fits l (now w) × Left l (now w) ⌝ }
     ensures { λ l r. ⌜ Proposed l k lambda (now (w .entry)) (now (w .exit)) (r .set) (r .chi2) (r .solved) ⌝ }
 {
@@ -121,8 +121,8 @@ fn attempt(
     set: &mut [f64],
     w: &mut [f64],
 ) -> Trial
-    ghost { Lent }
-    requires { λ l. ⌜ lent (now names) (now fixed) (now set) (now dh) (now dd) (now pier) (now sheets) «sin_lat» «cos_lat» «fit_tol» ≡ l ⌝ }
+    ghost { FitInputs }
+    requires { λ l. ⌜ inputs (now names) (now fixed) (now set) (now dh) (now dd) (now pier) (now sheets) «sin_lat» «cos_lat» «fit_tol» ≡ l ⌝ }
     requires { λ l. ⌜ Fits l (now w) × Left l (now w) ⌝ }
     ensures { λ l r. ⌜ (triedTo r (now (set .exit)) ≡ trialOf l options chi2 lambda (now (set .entry)))
         × Within l (now (w .entry)) (now (w .exit)) × Left (under l (now (set .exit))) (now (w .exit)) ⌝ }
@@ -182,8 +182,8 @@ fn run_lm_loop(
     set: &mut [f64],
     w: &mut [f64],
 ) -> LmLoopResult
-    ghost { Lent }
-    requires { λ l. ⌜ lent (now names) (now fixed) (now set) (now dh) (now dd) (now pier) (now sheets) «sin_lat» «cos_lat» «fit_tol» ≡ l ⌝ }
+    ghost { FitInputs }
+    requires { λ l. ⌜ inputs (now names) (now fixed) (now set) (now dh) (now dd) (now pier) (now sheets) «sin_lat» «cos_lat» «fit_tol» ≡ l ⌝ }
     requires { λ l. ⌜ Fits l (now w) ⌝ }
     ensures { λ l r. ⌜ (record { set = now (set .exit); how = r } ≡ lmLoop l options) × Within l (now (w .entry)) (now (w .exit)) × Left (under l (now (set .exit))) (now (w .exit)) ⌝ }
 {
@@ -272,8 +272,8 @@ fn apply_final_step(
     set: &mut [f64],
     w: &mut [f64],
 ) -> LastTrial
-    ghost { Lent }
-    requires { λ l. ⌜ lent (now names) (now fixed) (now set) (now dh) (now dd) (now pier) (now sheets) «sin_lat» «cos_lat» «fit_tol» ≡ l ⌝ }
+    ghost { FitInputs }
+    requires { λ l. ⌜ inputs (now names) (now fixed) (now set) (now dh) (now dd) (now pier) (now sheets) «sin_lat» «cos_lat» «fit_tol» ≡ l ⌝ }
     requires { λ l. ⌜ Fits l (now w) × Left l (now w) ⌝ }
     ensures { λ l r. ⌜ LastTried l options chi2 (now (set .entry)) (now (w .entry)) (now (w .exit)) (now (set .exit)) (r .chi2) (r .solved) ⌝ }
 {
@@ -356,8 +356,8 @@ fn fit_set(
     options: IterOptions,
     w: &mut [f64],
 ) -> FittedSet
-    ghost { Lent }
-    requires { λ l. ⌜ lent (now names) (now fixed) (now coefficients) (now dh) (now dd) (now pier) (now sheets) «sin_lat» «cos_lat» «fit_tol» ≡ l ⌝ }
+    ghost { FitInputs }
+    requires { λ l. ⌜ inputs (now names) (now fixed) (now coefficients) (now dh) (now dd) (now pier) (now sheets) «sin_lat» «cos_lat» «fit_tol» ≡ l ⌝ }
     requires { λ l. ⌜ Fits l (now w) ⌝ }
     ensures { λ l r. ⌜ Searched l options (now (w .entry)) (now (w .exit)) (r .set) (r .chi2) (r .lm) (r .solved) ⌝ }
 {
@@ -420,8 +420,8 @@ fn fit(
     diagnostics: &mut [f64],
     scratch: &mut [f64],
 ) -> FitResult
-    ghost { Lent }
-    requires { λ l. ⌜ lent (now names) (now fixed) (now coefficients) (now dh) (now dd) (now pier) (now sheets) «sin_lat» «cos_lat» «fit_tol» ≡ l ⌝ }
+    ghost { FitInputs }
+    requires { λ l. ⌜ inputs (now names) (now fixed) (now coefficients) (now dh) (now dd) (now pier) (now sheets) «sin_lat» «cos_lat» «fit_tol» ≡ l ⌝ }
     requires { λ l. ⌜ Ready l (sizesOf (buffers (now out) (now change) (now sigma) (now diagnostics) (now scratch))) ⌝ }
     ensures { λ l r. ⌜ outcome (Fit.Done r) (buffers (now (out .exit)) (now (change .exit)) (now (sigma .exit)) (now (diagnostics .exit)) (now (scratch .exit)))
         ≡ fitted l options (buffers (now (out .entry)) (now (change .entry)) (now (sigma .entry)) (now (diagnostics .entry)) (now (scratch .entry))) ⌝ }
@@ -496,8 +496,8 @@ pub fn fit_model_iterated(
     scratch: &mut [f64],
 ) -> Fit
     ensures { λ r. ⌜ (outcome r (buffers (now (out .exit)) (now (change .exit)) (now (sigma .exit)) (now (diagnostics .exit)) (now (scratch .exit)))
-        ≡ iteratedOutcome (lent (now (names .entry)) (now (fixed .entry)) (now (coefficients .entry)) (now (dh .entry)) (now (dd .entry)) (now (pier .entry)) (now (sheets .entry)) «sin_lat» «cos_lat» «fit_tol») options (buffers (now (out .entry)) (now (change .entry)) (now (sigma .entry)) (now (diagnostics .entry)) (now (scratch .entry))))
-        × Demand3 (lent (now (names .entry)) (now (fixed .entry)) (now (coefficients .entry)) (now (dh .entry)) (now (dd .entry)) (now (pier .entry)) (now (sheets .entry)) «sin_lat» «cos_lat» «fit_tol») options r (now (out .exit)) ⌝ }
+        ≡ iteratedOutcome (inputs (now (names .entry)) (now (fixed .entry)) (now (coefficients .entry)) (now (dh .entry)) (now (dd .entry)) (now (pier .entry)) (now (sheets .entry)) «sin_lat» «cos_lat» «fit_tol») options (buffers (now (out .entry)) (now (change .entry)) (now (sigma .entry)) (now (diagnostics .entry)) (now (scratch .entry))))
+        × Demand3 (inputs (now (names .entry)) (now (fixed .entry)) (now (coefficients .entry)) (now (dh .entry)) (now (dd .entry)) (now (pier .entry)) (now (sheets .entry)) «sin_lat» «cos_lat» «fit_tol») options r (now (out .exit)) ⌝ }
 {
     let asked = validate::questions(
         names,

@@ -13,7 +13,7 @@ use Rattle.sequence.proofs.Only.{only-sets, only-wider, only-then, back, back-o
 use Rattle.best.specs.ChiSquare.{chi}
 use Rattle.linalg.specs.declared.SolveOutcome.{SolveOutcome}
 use Rattle.linalg.specs.Linalg.{solvedDamped}
-use Rattle.validate.specs.Call.{Lent}
+use Rattle.solver.specs.Call.{FitInputs}
 use Rattle.design.specs.Design.{differences, predicted, freeCount, ofFree, weighing, laid}
 use Rattle.design.specs.Filled.{differencesTo, skyRows}
 use Rattle.design.proofs.Free.{free-few}
@@ -70,7 +70,7 @@ weighed-both n cosDecs k w w₁ ys w₂ w₃ room e₁ kept e e₂ e₃ =
 
 -- ---- the residuals under a set: w₁ after the prediction, ys what comes back from the differences
 
-module _ (l : Lent) (w : List Float) (f : Fits l w) where
+module _ (l : FitInputs) (w : List Float) (f : Fits l w) where
   pub under-state : (ys : List Float)
       → length ys ≡ length (take (2 * length (l .dh) + 2 * length (l .dh) - 2 * length (l .dh)) (drop (2 * length (l .dh)) w))
       → ys ≡ zipWith (sub binary64) (differencesTo (l .dh) (l .dd)) (predicted (2 * length (l .pier)) (length (l .coefficients)) (at (l .coefficients)) (columnTo-at l))

@@ -16,7 +16,7 @@ use Rattle.terms.specs.declared.TermKind.the-variants.{Equatorial, Harmonic}
 use Rattle.linalg.specs.declared.SolveOutcome.{SolveOutcome}
 use Rattle.linalg.specs.Linalg.{Solved, solvedDamped}
 use Rattle.solver.specs.declared.IterOptions.{IterOptions}
-use Rattle.validate.specs.Call.{Lent}
+use Rattle.solver.specs.Call.{FitInputs}
 use Rattle.design.specs.Design.{termAt, isFree, freeBefore, freeCount, ofFree, differences, predicted, weighing, laid}
 use Rattle.design.specs.Filled.{skyRows}
 use Rattle.stats.specs.Stats.{sqrt, count, degrees}
@@ -25,25 +25,25 @@ use Rattle.outcome.specs.Outcome.{starsOf, cosDecs, columnOf, skyOf, rowsOf, he
 -- ---- residuals_under_state and chi2_at_state
 
 -- a zero coefficient is skipped
-unfoldable pub residuals : Lent → List Float
+unfoldable pub residuals : FitInputs → List Float
 residuals l =
     zipWith (sub binary64) (differences (starsOf l)) (predicted (rowsOf l) (length (l .coefficients)) (at (l .coefficients)) (columnOf l))
 
 -- r_h, which is times cos dec, and r_d of star i
-abbrev pub hour : Lent → ℕ → Float
+abbrev pub hour : FitInputs → ℕ → Float
 hour l i = at (residuals l) (2 * i) ⊗ cosDecs l i
 
-abbrev pub dec : Lent → ℕ → Float
+abbrev pub dec : FitInputs → ℕ → Float
 dec l i = at (residuals l) (2 * i + 1)
 
 -- r_h·r_h + r_d·r_d of each star as one sum, in order, unweighted
-unfoldable pub chi2Of : Lent → Float
+unfoldable pub chi2Of : FitInputs → Float
 chi2Of l = chi (hour l) (dec l) (length (l .dh))
 
 -- ---- build_lm_system and solve_damped
 
 -- b before any weight
-unfoldable pub skyResiduals : Lent → List Float
+unfoldable pub skyResiduals : FitInputs → List Float
 skyResiduals l = skyRows (length (l .dh)) (cosDecs l) (residuals l)
 
 -- k_sigma of a robust fit whose chi-square is above 0; else 0, with which nothing is weighed. (n >= free is question 13's.)
@@ -51,17 +51,17 @@ unfoldable pub huberFrom : ℕ → List ℕ → IterOptions → Float → Float
 huberFrom n fixed o chi2 =
     cond (o .robust && lt #0 chi2) (o .«huber_k» ⊗ sqrt (chi2 ⊘ count (degrees (2 * n) (freeCount fixed)))) #0
 
-abbrev pub huberK : Lent → IterOptions → Float → Float
+abbrev pub huberK : FitInputs → IterOptions → Float → Float
 huberK l = huberFrom (length (l .dh)) (l .fixed)
 
 -- b, and the column of term j, weighed by rows
-abbrev pub weighedResiduals : Lent → Float → List Float
+abbrev pub weighedResiduals : FitInputs → Float → List Float
 weighedResiduals l k = weighing k (skyResiduals l) (skyResiduals l)
 
-abbrev pub weighedColumn : Lent → Float → ℕ → List Float
+abbrev pub weighedColumn : FitInputs → Float → ℕ → List Float
 weighedColumn l k j = weighing k (skyResiduals l) (skyOf l j)
 
-unfoldable pub lmStep : Lent → Float → Float → Solved
+unfoldable pub lmStep : FitInputs → Float → Float → Solved
 lmStep l k lambda =
     solvedDamped (heightOf l) (rowsOf l) (freeCount (l .fixed)) (laid (heightOf l) (ofFree (l .fixed) (weighedColumn l k) (length (l .fixed)))) (weighedResiduals l k)
     lambda (l .fitTol)
@@ -122,12 +122,12 @@ stepNorm names fixed x =
 -- ---- what the functions count on and leave
 
 -- the residuals of the set in hand lie at 2·n
-abbrev pub Left : Lent → List Float → Type 0
+abbrev pub Left : FitInputs → List Float → Type 0
 Left l w = part w (2 * length (l .dh)) (2 * length (l .dh)) ≡ residuals l
 
 -- a step leaves the solver's answer with its columns, b, and the residuals that its weights belong to
 
-pub record LmStepped (l : Lent) (k lambda : Float) (w₀ w : List Float) (o : SolveOutcome) : Type 0 where
+pub record LmStepped (l : FitInputs) (k lambda : Float) (w₀ w : List Float) (o : SolveOutcome) : Type 0 where
   pub solution : record { outcome = o; w = part w (8 * length (l .dh)) (freeCount (l .fixed) * heightOf l) } ≡ lmStep l k lambda
   pub b : part w (4 * length (l .dh)) (2 * length (l .dh)) ≡ weighedResiduals l k
   pub sky : part w (6 * length (l .dh)) (2 * length (l .dh)) ≡ skyResiduals l

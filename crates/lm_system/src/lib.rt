@@ -9,7 +9,7 @@ ghost use Rattle.sequence.specs.Sequence.{at, part, filled, sumTo, Only};
 ghost use Rattle.column.specs.Column.{zeros};
 ghost use Rattle.design.specs.Design.{sheetAt, cosDec, weighing};
 ghost use Rattle.design.specs.Filled.{skyRows};
-ghost use Rattle.validate.specs.Call.{Lent, lent};
+ghost use Rattle.solver.specs.Call.{FitInputs, inputs};
 ghost use Rattle.outcome.specs.Outcome.{Fits};
 ghost use Rattle.lm_system.specs.System.{residuals as residualsOf, chi2Of, Left, movedAt, rotates as rotatesOf, rotational as rotationalOf, larger as largerOf, largest as largestOf, stepNorm, huberFrom, LmStepped};
 use equatorial::EquatorialTerm;
@@ -31,8 +31,8 @@ pub fn residuals_under_state(
     fit_tol: f64,
     w: &mut [f64],
 )
-    ghost { Lent }
-    requires { λ l. ⌜ lent (now names) (now fixed) (now set) (now dh) (now dd) (now pier) (now sheets) «sin_lat» «cos_lat» «fit_tol» ≡ l ⌝ }
+    ghost { FitInputs }
+    requires { λ l. ⌜ inputs (now names) (now fixed) (now set) (now dh) (now dd) (now pier) (now sheets) «sin_lat» «cos_lat» «fit_tol» ≡ l ⌝ }
     requires { λ l. ⌜ Fits l (now w) ⌝ }
     ensures { λ l _. ⌜ (part (now (w .exit)) (2 * length (l .dh)) (2 * length (l .dh))
         ≡ residualsOf l)
@@ -66,8 +66,8 @@ pub fn chi2_at_state(
     fit_tol: f64,
     w: &mut [f64],
 ) -> f64
-    ghost { Lent }
-    requires { λ l. ⌜ lent (now names) (now fixed) (now set) (now dh) (now dd) (now pier) (now sheets) «sin_lat» «cos_lat» «fit_tol» ≡ l ⌝ }
+    ghost { FitInputs }
+    requires { λ l. ⌜ inputs (now names) (now fixed) (now set) (now dh) (now dd) (now pier) (now sheets) «sin_lat» «cos_lat» «fit_tol» ≡ l ⌝ }
     requires { λ l. ⌜ Fits l (now w) ⌝ }
     ensures { λ l r. ⌜ (r ≡ chi2Of l) × Left l (now (w .exit)) × Only 0 (4 * length (l .dh)) (now (w .entry)) (now (w .exit)) ⌝ }
 {
@@ -138,8 +138,8 @@ pub fn lm_step(
     lambda: f64,
     w: &mut [f64],
 ) -> SolveOutcome
-    ghost { Lent }
-    requires { λ l. ⌜ lent (now names) (now fixed) (now set) (now dh) (now dd) (now pier) (now sheets) «sin_lat» «cos_lat» «fit_tol» ≡ l ⌝ }
+    ghost { FitInputs }
+    requires { λ l. ⌜ inputs (now names) (now fixed) (now set) (now dh) (now dd) (now pier) (now sheets) «sin_lat» «cos_lat» «fit_tol» ≡ l ⌝ }
     requires { λ l. ⌜ Fits l (now w) × Left l (now w) ⌝ }
     ensures { λ l r. ⌜ LmStepped l k lambda (now (w .entry)) (now (w .exit)) r ⌝ }
 {

@@ -19,7 +19,7 @@ use Rattle.solver.specs.declared.Fit.the-variants.{Done}
 use Rattle.solver.specs.declared.FitResult.{FitResult}
 use Rattle.solver.specs.declared.IterReport.{IterReport}
 use Rattle.stats.specs.declared.Sky.{Sky}
-use Rattle.validate.specs.Call.{Lent, Buffers, buffers, sizesOf}
+use Rattle.solver.specs.Call.{FitInputs, Buffers, buffers, sizesOf}
 use Rattle.validate.specs.Questions.{scratchNeeded, Ready}
 use Rattle.design.specs.Design.{Star, stars, starAt, termAt, slope, cosDec, freeCount, column, skyColumn, differences, skyDifferences}
 use Rattle.design.specs.Filled.{rowsTo, columnTo, skyColumnTo, differencesTo, skyDifferencesTo}
@@ -31,13 +31,13 @@ use Rattle.outcome.specs.Outcome.{starsOf, cosDecs, columnOf, skyOf, row
 -- ---- by the list of stars
 
 -- the column of term j by the star's number
-abbrev pub columnTo-at : Lent → ℕ → List Float
+abbrev pub columnTo-at : FitInputs → ℕ → List Float
 columnTo-at l j = columnTo (l .sinLat) (l .cosLat) (l .pier) (l .sheets) (termAt (l .names) j)
 
-abbrev pub skyTo-at : Lent → ℕ → List Float
+abbrev pub skyTo-at : FitInputs → ℕ → List Float
 skyTo-at l j = skyColumnTo (l .sinLat) (l .cosLat) (l .pier) (l .sheets) (termAt (l .names) j)
 
-module _ (l : Lent) (same : length (l .pier) ≡ length (l .dh)) where
+module _ (l : FitInputs) (same : length (l .pier) ≡ length (l .dh)) where
   pub column-same : columnTo-at l ≡ columnOf l
   unfolding column columnTo stars
   column-same =
@@ -60,18 +60,18 @@ module _ (l : Lent) (same : length (l .pier) ≡ length (l .dh)) where
       let star : ℕ → Star = starAt (l .dh) (l .dd) (l .pier) (l .sheets) in
       ap (λ (n : ℕ). rowsTo n (λ i. f (star i)) (λ i. g (star i))) same ∙ sym (rows-table f g star (length (l .dh))))
 
-pub differences-same : (l : Lent) → differencesTo (l .dh) (l .dd) ≡ differences (starsOf l)
+pub differences-same : (l : FitInputs) → differencesTo (l .dh) (l .dd) ≡ differences (starsOf l)
 unfolding differences differencesTo stars
 differences-same l = sym (rows-table (λ s. s .dh) (λ s. s .dd) (starAt (l .dh) (l .dd) (l .pier) (l .sheets)) (length (l .dh)))
 
-pub sky-differences-same : (l : Lent) → skyDifferencesTo (l .dh) (l .dd) (l .sheets) ≡ skyDifferences (starsOf l)
+pub sky-differences-same : (l : FitInputs) → skyDifferencesTo (l .dh) (l .dd) (l .sheets) ≡ skyDifferences (starsOf l)
 unfolding skyDifferences skyDifferencesTo stars
 sky-differences-same l =
     sym (rows-table (λ s. s .dh ⊗ cosDec (s .sheet)) (λ s. s .dd) (starAt (l .dh) (l .dd) (l .pier) (l .sheets)) (length (l .dh)))
 
 -- ---- room
 
-pub fits-ready : (l : Lent) (b : Buffers) → Ready l (sizesOf b) → Fits l (b .scratch)
+pub fits-ready : (l : FitInputs) (b : Buffers) → Ready l (sizesOf b) → Fits l (b .scratch)
 unfolding scratchNeeded
 fits-ready l b r =
     let n = length (l .dh) in
@@ -90,10 +90,10 @@ fits-ready l b r =
     }
 
 -- room for the columns of all terms, and for those of the free ones
-pub columns-room : (l : Lent) (w v : List Float) → Fits l w → length v ≡ length w → 8 * length (l .dh) + length (l .fixed) * heightOf l ≤ length v
+pub columns-room : (l : FitInputs) (w v : List Float) → Fits l w → length v ≡ length w → 8 * length (l .dh) + length (l .fixed) * heightOf l ≤ length v
 columns-room l w v f e = rw (f .fixed-count, e) (f .room)
 
-pub solve-ready : (l : Lent) (w v : List Float) (free : ℕ) → Fits l w → length v ≡ length w → free ≡ freeCount (l .fixed)
+pub solve-ready : (l : FitInputs) (w v : List Float) (free : ℕ) → Fits l w → length v ≡ length w → free ≡ freeCount (l .fixed)
     → (0 < free) × (free ≤ 32) × (free ≤ length (l .coefficients)) × (8 * length (l .dh) + free * heightOf l ≤ length v)
 solve-ready l w v free f e q =
     let few : free ≤ length (l .coefficients) = rw (q, ← f .fixed-count) (free-few (l .fixed) (length (l .fixed))) in
@@ -101,7 +101,7 @@ solve-ready l w v free f e q =
     (least, omega (arith, few, f .terms), few, omega (arith, mul-le-mul-right (heightOf l) few, f .room, e))
 
 -- the solved columns lie in w after a solve of the columns a and the residuals b
-pub placed-solved : (l : Lent) (w₀ w a b : List Float) (o : SolveOutcome) → Fits l w₀ → length w ≡ length w₀
+pub placed-solved : (l : FitInputs) (w₀ w a b : List Float) (o : SolveOutcome) → Fits l w₀ → length w ≡ length w₀
     → record { outcome = o; w = part w (8 * length (l .dh)) (freeCount (l .fixed) * heightOf l) } ≡ solved (heightOf l) (rowsOf l) (freeCount (l .fixed)) a b (l .fitTol)
     → (8 * length (l .dh) + freeCount (l .fixed) * heightOf l ≤ length w)
     × Placed (heightOf l) (part w (8 * length (l .dh)) (freeCount (l .fixed) * heightOf l)) (take (freeCount (l .fixed)) (o .order))
@@ -194,7 +194,7 @@ refilled zs w₂ w₀ need h k e =
     length-append zs (drop need w₂) ∙ simp length-drop (omega arith)
 
 -- w is the scratch after the last solve o, with the residuals r that it left at 2·n; then w₂, after the residuals under the set that is returned
-pub finishes : (l : Lent) (b : Buffers) (w w₂ zs set moved r out′ change′ sigma′ diag′ : List Float) (o : SolveOutcome) (s : Solved) (k need : ℕ) (answer : FitResult)
+pub finishes : (l : FitInputs) (b : Buffers) (w w₂ zs set moved r out′ change′ sigma′ diag′ : List Float) (o : SolveOutcome) (s : Solved) (k need : ℕ) (answer : FitResult)
     → Fits l (b .scratch) → need ≡ scratchNeeded (length (l .coefficients)) (length (l .dh))
     → record { outcome = o; w = part w (8 * length (l .dh)) (freeCount (l .fixed) * heightOf l) } ≡ s
     → part w (2 * length (l .dh)) (2 * length (l .dh)) ≡ r
@@ -224,7 +224,7 @@ finishes l b w w₂ zs set moved r out′ change′ sigma′ diag′ o s k need 
     rw (eo, ec, e₃, e₄, e₅, en)
 
 -- the answer, from the last solve o and what was found on the sky
-pub answers : (l : Lent) (w r : List Float) (o : SolveOutcome) (s : Solved) (sky : Sky) (free : ℕ) (report : IterReport) → free ≡ freeCount (l .fixed)
+pub answers : (l : FitInputs) (w r : List Float) (o : SolveOutcome) (s : Solved) (sky : Sky) (free : ℕ) (report : IterReport) → free ≡ freeCount (l .fixed)
     → record { outcome = o; w = w } ≡ s → sky ≡ skyFrom (length (l .dh)) (cosDecs l) free r
     → record {
       «sky_rms» = sky .rms;

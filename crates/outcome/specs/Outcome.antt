@@ -14,37 +14,37 @@ use Rattle.solver.specs.declared.Fit.the-variants.{Done}
 use Rattle.solver.specs.declared.FitResult.{FitResult}
 use Rattle.solver.specs.declared.IterReport.{IterReport}
 use Rattle.solver.specs.declared.ObsDiagnostic.{ObsDiagnostic}
-use Rattle.validate.specs.Call.{Lent, Buffers, buffers}
+use Rattle.solver.specs.Call.{FitInputs, Buffers, buffers}
 use Rattle.validate.specs.Questions.{scratchNeeded}
 use Rattle.design.specs.Design.{Star, stars, termAt, sheetAt, cosDec, freeCount, column, skyColumn}
 use Rattle.stats.specs.Stats.{skyFrom, variance, sigmaAt, deviation, diagnostic}
 
 -- ---- a call's stars and columns
 
-abbrev pub starsOf : Lent → List Star
+abbrev pub starsOf : FitInputs → List Star
 starsOf l = stars (l .dh) (l .dd) (l .pier) (l .sheets)
 
 -- cos dec of star i
-abbrev pub cosDecs : Lent → ℕ → Float
+abbrev pub cosDecs : FitInputs → ℕ → Float
 cosDecs l i = cosDec (sheetAt (l .sheets) i)
 
 -- the column of term j, and the same on the sky
-abbrev pub columnOf : Lent → ℕ → List Float
+abbrev pub columnOf : FitInputs → ℕ → List Float
 columnOf l j = column (l .sinLat) (l .cosLat) (starsOf l) (termAt (l .names) j)
 
-abbrev pub skyOf : Lent → ℕ → List Float
+abbrev pub skyOf : FitInputs → ℕ → List Float
 skyOf l j = skyColumn (l .sinLat) (l .cosLat) (starsOf l) (termAt (l .names) j)
 
 -- how many rows the data have, and how many numbers a column of scratch
-abbrev pub rowsOf : Lent → ℕ
+abbrev pub rowsOf : FitInputs → ℕ
 rowsOf l = 2 * length (l .dh)
 
-abbrev pub heightOf : Lent → ℕ
+abbrev pub heightOf : FitInputs → ℕ
 heightOf l = rowsOf l + 2 * length (l .coefficients)
 
 -- ---- statistics, from the last solve and the residuals r that it left
 
-unfoldable pub sigmaOf : Lent → SolveOutcome → List Float → List Float
+unfoldable pub sigmaOf : FitInputs → SolveOutcome → List Float → List Float
 sigmaOf l o r = filled (length (l .coefficients)) (sigmaAt (l .fixed) (variance r (length (l .dh)) (o .rank)) (o .«cov_diag»)) zeros
 
 -- compute_diagnostics: of star i, from the residuals r of n stars and each row's leverage
@@ -52,7 +52,7 @@ abbrev pub diagnosticFrom : ℕ → ℕ → List Float → (ℕ → Float) → �
 diagnosticFrom n rank r leverage i =
     diagnostic (deviation r (2 * n) rank) (at r (2 * i)) (at r (2 * i + 1)) (leverage (2 * i)) (leverage (2 * i + 1))
 
-unfoldable pub diagnosticOf : Lent → Solved → List Float → ℕ → ObsDiagnostic
+unfoldable pub diagnosticOf : FitInputs → Solved → List Float → ℕ → ObsDiagnostic
 diagnosticOf l s r = diagnosticFrom (length (l .dh)) (s .outcome .rank) r (leverageAfter (heightOf l) (freeCount (l .fixed)) s)
 
 -- residual, leverage and studentized residual of n stars, one star after the other
@@ -61,7 +61,7 @@ threes zero d = []
 threes (suc n) d = threes n d ++ (d n .«residual_sky» ∷ d n .leverage ∷ d n .studentized ∷ [])
 
 -- what a fit answers, from the last solve and the residuals r under the set that is returned
-unfoldable pub resultOf : Lent → SolveOutcome → List Float → IterReport → FitResult
+unfoldable pub resultOf : FitInputs → SolveOutcome → List Float → IterReport → FitResult
 resultOf l o r report =
     let free = freeCount (l .fixed) in
     let sky = skyFrom (length (l .dh)) (cosDecs l) free r in
@@ -82,7 +82,7 @@ abbrev pub outcome : Fit → Buffers → Outcome
 outcome f b = record { answer = f; left = b }
 
 -- an accepted fit: the set, its change, the last solve and the residuals r that it left, and the answer
-unfoldable pub finished : Lent → Buffers → List Float → List Float → Solved → List Float → FitResult → Outcome
+unfoldable pub finished : FitInputs → Buffers → List Float → List Float → Solved → List Float → FitResult → Outcome
 finished l b set change s r answer =
     let m = length (l .coefficients) in
     let n = length (l .dh) in
@@ -98,7 +98,7 @@ finished l b set change s r answer =
 
 -- ---- what a fit counts on: as `Ready`, with room for every term's column from 8·n on
 
-pub record Fits (l : Lent) (w : List Float) : Type 0 where
+pub record Fits (l : FitInputs) (w : List Float) : Type 0 where
   pub terms : length (l .coefficients) ≤ 32
   pub stars : length (l .dh) ≤ 1024
   pub names-count : length (l .names) ≡ 16 * length (l .coefficients)

@@ -12,7 +12,7 @@ use Rattle.listing.specs.Text.{Wrote}
 use Rattle.listing.specs.Listing.{refusalText}
 use Rattle.solver.specs.declared.Fit.{Fit}
 use Rattle.solver.specs.declared.IterOptions.{IterOptions}
-use Rattle.validate.specs.Call.{Lent, lent, buffers, sizes, sizesOf}
+use Rattle.solver.specs.Call.{FitInputs, inputs, buffers, sizes, sizesOf}
 use Rattle.validate.specs.Questions.{asked}
 use Rattle.validate.specs.declared.Asked.{Asked}
 use Rattle.validate.specs.declared.Asked.the-variants.{Pass, No}
@@ -34,7 +34,7 @@ decoded s m n p q ea eb ec ed ee = record {
 pub input-is : {coefficients dh dd sheets : List Float} {names fixed pier : List ℕ} {a b c : Float} (s : List ℕ)
     → names ≡ part s namesAt (16 * termsOf s) → fixed ≡ part s (flagsAt (termsOf s)) (termsOf s) → Decoded s coefficients dh dd pier sheets
     → a ≡ double s (settingAt 0) → b ≡ double s (settingAt 1) → c ≡ double s (settingAt 2)
-    → lent names fixed coefficients dh dd pier sheets a b c ≡ inputOf s
+    → inputs names fixed coefficients dh dd pier sheets a b c ≡ inputOf s
 unfolding inputOf
 input-is s en ef d ea eb ec = rw (en, ef, d .coefficients-are, d .dh-are, d .dd-are, d .pier-are, d .sheets-are, ea, eb, ec)
 
@@ -44,7 +44,7 @@ pub room-sizes : sizesOf room ≡ sizes 16 16 16 300 8096
 unfolding room
 room-sizes = rw (length-replicate 16 #0, length-replicate 300 #0, length-replicate 8096 #0)
 
-module _ (mode : ℕ) (l : Lent) (o : IterOptions) (r : Asked) (e : r ≡ asked l o (sizes 16 16 16 300 8096)) where
+module _ (mode : ℕ) (l : FitInputs) (o : IterOptions) (r : Asked) (e : r ≡ asked l o (sizes 16 16 16 300 8096)) where
   pub asked-no : (k : ℕ) → r ≡ No k → outcomeText l (outcomeOf mode l o) ≡ refusalText k
   unfolding outcomeOf
   asked-no k q = rw (room-sizes, ← e, q)
@@ -54,7 +54,7 @@ module _ (mode : ℕ) (l : Lent) (o : IterOptions) (r : Asked) (e : r ≡ asked 
   asked-pass free q = rw (room-sizes, ← e, q)
 
 -- the text of a fit made in buffers that hold zeros
-pub fit-text : (mode : ℕ) (l : Lent) (o : IterOptions) {a b c d w a′ b′ c′ d′ w′ : List Float} (f f′ : Fit)
+pub fit-text : (mode : ℕ) (l : FitInputs) (o : IterOptions) {a b c d w a′ b′ c′ d′ w′ : List Float} (f f′ : Fit)
     → a ≡ replicate 16 #0 → b ≡ replicate 16 #0 → c ≡ replicate 16 #0 → d ≡ replicate 300 #0 → w ≡ replicate 8096 #0
     → outcome f (buffers a′ b′ c′ d′ w′) ≡ fitOf mode l o (buffers a b c d w) → f ≡ f′
     → outcomeText l (fitOf mode l o room) ≡ answerText l (buffers a′ b′ c′ d′ w′) f′

@@ -9,7 +9,7 @@ use lib.Ieee.{Float, inf, binary64, ofBits}
 use Rattle.sequence.specs.Sequence.{part, table}
 use Rattle.little_endian.specs.LittleEndian.{numberAt}
 use Rattle.solver.specs.declared.IterOptions.{IterOptions}
-use Rattle.validate.specs.Call.{Lent, lent}
+use Rattle.solver.specs.Call.{FitInputs, inputs}
 
 -- ---- the nine bytes of the header
 
@@ -84,11 +84,11 @@ sheetsOf s m n = table (37 * n) (λ k. double s (sheetAt m (k / 37) (k % 37)))
 abbrev pub differencesOf : List ℕ → ℕ → (ℕ → ℕ) → List Float
 differencesOf s n place = table n (λ i. double s (place i))
 
-unfoldable pub inputOf : List ℕ → Lent
+unfoldable pub inputOf : List ℕ → FitInputs
 inputOf s =
     let m = termsOf s in
     let n = starsOf s in
-    lent
+    inputs
     (part s namesAt (16 * m))
     (part s (flagsAt m) m)
     (coefficientsOf s m)

@@ -12,7 +12,7 @@ use Rattle.terms.specs.Questions.{ask, firstNo}
 use Rattle.solver.specs.declared.Fit.{Fit}
 use Rattle.solver.specs.declared.Fit.the-variants.{Done, Refused}
 use Rattle.solver.specs.declared.IterOptions.{IterOptions}
-use Rattle.validate.specs.Call.{Lent, Buffers, buffers, sizesOf}
+use Rattle.solver.specs.Call.{FitInputs, Buffers, buffers, sizesOf}
 use Rattle.validate.specs.Questions.{asked}
 use Rattle.validate.specs.declared.Asked.{Asked}
 use Rattle.validate.specs.declared.Asked.the-variants.{Pass, No}
@@ -54,24 +54,24 @@ unfoldable pub room : Buffers
 room = buffers (replicate 16 #0) (replicate 16 #0) (replicate 16 #0) (replicate 300 #0) (replicate 8096 #0)
 
 -- the fit of a mode: 0 is the single step, 1 and 3 are the iterated fit
-unfoldable pub fitOf : ℕ → Lent → IterOptions → Buffers → Outcome
+unfoldable pub fitOf : ℕ → FitInputs → IterOptions → Buffers → Outcome
 fitOf mode l o b = cond (eqb mode 0) (fitOutcome l b) (iteratedOutcome l o b)
 
 -- the questions are put to every field in every mode, then the fit is made
-abbrev pub decided : Asked → ℕ → Lent → IterOptions → Outcome
+abbrev pub decided : Asked → ℕ → FitInputs → IterOptions → Outcome
 decided (Pass free) mode l o = fitOf mode l o room
 decided (No k) mode l o = outcome (Refused k) room
 
-unfoldable pub outcomeOf : ℕ → Lent → IterOptions → Outcome
+unfoldable pub outcomeOf : ℕ → FitInputs → IterOptions → Outcome
 outcomeOf mode l o = decided (asked l o (sizesOf room)) mode l o
 
 -- ---- the listing
 
-abbrev pub answerText : Lent → Buffers → Fit → List ℕ
+abbrev pub answerText : FitInputs → Buffers → Fit → List ℕ
 answerText l b (Done r) = fitText (l .names) (length (l .coefficients)) (b .coefficients) (b .sigma) r
 answerText l b (Refused k) = refusalText k
 
-abbrev pub outcomeText : Lent → Outcome → List ℕ
+abbrev pub outcomeText : FitInputs → Outcome → List ℕ
 outcomeText l o = answerText l (o .left) (o .answer)
 
 -- what the program prints of a file

@@ -8,7 +8,7 @@ ghost use Rattle.harmonic.specs.Table.{ascii};
 ghost use Rattle.terms.specs.Names.{same};
 ghost use Rattle.listing.specs.Text.{Wrote};
 ghost use Rattle.listing.specs.Listing.{listingRoom};
-ghost use Rattle.validate.specs.Call.{lent, buffers};
+ghost use Rattle.solver.specs.Call.{inputs, buffers};
 ghost use Rattle.outcome.specs.Outcome.{outcome};
 ghost use Rattle.pmf.specs.File.{markOf, termsOf, modeOf, inputOf, optionsOf, Decoded};
 ghost use Rattle.pmf.specs.Pmf.{modeKnown, fileNo, WellFormed, fitOf, room, outcomeOf, outcomeText, listedIn};
@@ -103,7 +103,7 @@ fn fit(
     scratch: &mut [f64],
 ) -> Fit
     ensures { λ r. ⌜ outcome r (buffers (now (out .exit)) (now (change .exit)) (now (sigma .exit)) (now (diagnostics .exit)) (now (scratch .exit)))
-        ≡ fitOf mode (lent (now (names .entry)) (now (fixed .entry)) (now (coefficients .entry)) (now (dh .entry)) (now (dd .entry)) (now (pier .entry)) (now (sheets .entry)) «sin_lat» «cos_lat» «fit_tol») options (buffers (now (out .entry)) (now (change .entry)) (now (sigma .entry)) (now (diagnostics .entry)) (now (scratch .entry))) ⌝ }
+        ≡ fitOf mode (inputs (now (names .entry)) (now (fixed .entry)) (now (coefficients .entry)) (now (dh .entry)) (now (dd .entry)) (now (pier .entry)) (now (sheets .entry)) «sin_lat» «cos_lat» «fit_tol») options (buffers (now (out .entry)) (now (change .entry)) (now (sigma .entry)) (now (diagnostics .entry)) (now (scratch .entry))) ⌝ }
 {
     if mode == 0 {
         return single_step::fit_model(
@@ -179,7 +179,7 @@ fn list_fit(
     text: &mut [u8],
 ) -> usize
     requires { ⌜ (listingRoom ≤ length (now text)) × (length (now coefficients) ≤ 16) × (length (now names) ≡ 16 * length (now coefficients)) ⌝ }
-    ensures { λ r. ⌜ Wrote (outcomeText (lent (now (names .entry)) (now (fixed .entry)) (now (coefficients .entry)) (now (dh .entry)) (now (dd .entry)) (now (pier .entry)) (now (sheets .entry)) «sin_lat» «cos_lat» «fit_tol») (fitOf mode (lent (now (names .entry)) (now (fixed .entry)) (now (coefficients .entry)) (now (dh .entry)) (now (dd .entry)) (now (pier .entry)) (now (sheets .entry)) «sin_lat» «cos_lat» «fit_tol») options room)) 0 (now (text .entry)) (now (text .exit)) r ⌝ }
+    ensures { λ r. ⌜ Wrote (outcomeText (inputs (now (names .entry)) (now (fixed .entry)) (now (coefficients .entry)) (now (dh .entry)) (now (dd .entry)) (now (pier .entry)) (now (sheets .entry)) «sin_lat» «cos_lat» «fit_tol») (fitOf mode (inputs (now (names .entry)) (now (fixed .entry)) (now (coefficients .entry)) (now (dh .entry)) (now (dd .entry)) (now (pier .entry)) (now (sheets .entry)) «sin_lat» «cos_lat» «fit_tol») options room)) 0 (now (text .entry)) (now (text .exit)) r ⌝ }
 {
     let mut out = term_room();
     let mut change = term_room();
@@ -228,7 +228,7 @@ fn list_input(
     text: &mut [u8],
 ) -> usize
     requires { ⌜ (listingRoom ≤ length (now text)) × (length (now coefficients) ≤ 16) × (length (now names) ≡ 16 * length (now coefficients)) ⌝ }
-    ensures { λ r. ⌜ Wrote (outcomeText (lent (now (names .entry)) (now (fixed .entry)) (now (coefficients .entry)) (now (dh .entry)) (now (dd .entry)) (now (pier .entry)) (now (sheets .entry)) «sin_lat» «cos_lat» «fit_tol») (outcomeOf mode (lent (now (names .entry)) (now (fixed .entry)) (now (coefficients .entry)) (now (dh .entry)) (now (dd .entry)) (now (pier .entry)) (now (sheets .entry)) «sin_lat» «cos_lat» «fit_tol») options)) 0 (now (text .entry)) (now (text .exit)) r ⌝ }
+    ensures { λ r. ⌜ Wrote (outcomeText (inputs (now (names .entry)) (now (fixed .entry)) (now (coefficients .entry)) (now (dh .entry)) (now (dd .entry)) (now (pier .entry)) (now (sheets .entry)) «sin_lat» «cos_lat» «fit_tol») (outcomeOf mode (inputs (now (names .entry)) (now (fixed .entry)) (now (coefficients .entry)) (now (dh .entry)) (now (dd .entry)) (now (pier .entry)) (now (sheets .entry)) «sin_lat» «cos_lat» «fit_tol») options)) 0 (now (text .entry)) (now (text .exit)) r ⌝ }
 {
     let asked = validate::questions(
         names,

@@ -12,7 +12,7 @@ use Rattle.sequence.proofs.Only.{only-wider, only-then, back, back-only, back-p
 use Rattle.linalg.specs.Linalg.{Solved, solved}
 use Rattle.column.specs.Column.{zeros}
 use Rattle.linalg.specs.declared.SolveOutcome.{SolveOutcome}
-use Rattle.validate.specs.Call.{Lent}
+use Rattle.solver.specs.Call.{FitInputs}
 use Rattle.design.specs.Design.{freeCount, ofFree, skyDifferences, subtractAll, freeProduct, weighing, laid}
 use Rattle.design.specs.Filled.{skyDifferencesTo}
 use Rattle.design.proofs.Free.{free-few}
@@ -22,11 +22,11 @@ use Rattle.outcome.proofs.Laws.{skyTo-at, sky-same, sky-differences-same}
 use Rattle.single_step.specs.SingleStep.{toFit, step, changeAt, change, newCoefficients, freeResiduals, Stepped}
 
 -- the sky column of term j, unweighed
-abbrev pub unweighed : Lent → List Float → ℕ → List Float
+abbrev pub unweighed : FitInputs → List Float → ℕ → List Float
 unweighed l b = weighedTo #0 b (l .sinLat) (l .cosLat) (l .names) (l .pier) (l .sheets)
 
 -- w is the scratch; it has taken the differences ys, then the contributions were subtracted (w₁), the columns laid (w₂) and the system solved (w₃)
-pub stepped : (l : Lent) (w ys w₁ w₂ w₃ : List Float) (free : ℕ) (r : SolveOutcome) → Fits l w → free ≡ freeCount (l .fixed)
+pub stepped : (l : FitInputs) (w ys w₁ w₂ w₃ : List Float) (free : ℕ) (r : SolveOutcome) → Fits l w → free ≡ freeCount (l .fixed)
     → length ys ≡ length (take (4 * length (l .dh) + 2 * length (l .dh) - 4 * length (l .dh)) (drop (4 * length (l .dh)) w))
     → ys ≡ skyDifferencesTo (l .dh) (l .dd) (l .sheets)
     → (part w₁ (4 * length (l .dh)) (2 * length (l .pier))
@@ -67,7 +67,7 @@ stepped l w ys w₁ w₂ w₃ free r f q kept e p₁ p₂ p₃ =
 
 -- ---- the step and its residuals
 
-pub made-step : (l : Lent) (w w₁ w₂ : List Float) (o : SolveOutcome) (ch new : List Float) → Fits l w
+pub made-step : (l : FitInputs) (w w₁ w₂ : List Float) (o : SolveOutcome) (ch new : List Float) → Fits l w
     → (record { outcome = o; w = part w₁ (8 * length (l .dh)) (freeCount (l .fixed) * heightOf l) } ≡ step l) × (part w₁ (4 * length (l .dh)) (2 * length (l .dh)) ≡ toFit l)
     × Only 0 (8 * length (l .dh) + length (l .coefficients) * heightOf l) w w₁
     → ch ≡ filled (length (l .fixed)) (changeAt (l .fixed) (o .x)) zeros

@@ -11,7 +11,7 @@ use Rattle.column.specs.Column.{zeros}
 use Rattle.sequence.specs.Sequence.{at, part, filled, Only}
 use Rattle.linalg.specs.declared.SolveOutcome.{SolveOutcome}
 use Rattle.linalg.specs.Linalg.{Placed, leverageOf}
-use Rattle.validate.specs.Call.{Lent, Buffers, buffers, sizesOf}
+use Rattle.solver.specs.Call.{FitInputs, Buffers, buffers, sizesOf}
 use Rattle.validate.specs.Questions.{scratchNeeded, asked, noOptions}
 use Rattle.validate.specs.declared.Asked.{Asked}
 use Rattle.validate.specs.declared.Asked.the-variants.{Pass, No}
@@ -28,17 +28,17 @@ use Rattle.single_step.specs.SingleStep.{change, newCoefficients, step, 
 
 -- ---- a call by the answer of its questions
 
-pub refused : (l : Lent) (b : Buffers) (k : ℕ) (r : Asked) → r ≡ No k → r ≡ asked l noOptions (sizesOf b) → outcome (Refused k) b ≡ fitOutcome l b
+pub refused : (l : FitInputs) (b : Buffers) (k : ℕ) (r : Asked) → r ≡ No k → r ≡ asked l noOptions (sizesOf b) → outcome (Refused k) b ≡ fitOutcome l b
 unfolding fitOutcome
 refused l b k r e q = ap (λ a. decided a l b) (sym e ∙ q)
 
-pub accepted : (l : Lent) (b : Buffers) (free : ℕ) (r : Asked) (o : Outcome) → r ≡ Pass free → r ≡ asked l noOptions (sizesOf b) → o ≡ fitted l b → o ≡ fitOutcome l b
+pub accepted : (l : FitInputs) (b : Buffers) (free : ℕ) (r : Asked) (o : Outcome) → r ≡ Pass free → r ≡ asked l noOptions (sizesOf b) → o ≡ fitted l b → o ≡ fitOutcome l b
 unfolding fitOutcome
 accepted l b free r o e q w = w ∙ ap (λ a. decided a l b) (sym e ∙ q)
 
 -- ---- the parts of an accepted fit; w is the scratch after the step
 
-pub placed-step : (l : Lent) (w₀ w ch new : List Float) (o : SolveOutcome) → Fits l w₀ → Stepped l w₀ w ch new o
+pub placed-step : (l : FitInputs) (w₀ w ch new : List Float) (o : SolveOutcome) → Fits l w₀ → Stepped l w₀ w ch new o
     → (8 * length (l .dh) + freeCount (l .fixed) * heightOf l ≤ length w)
     × Placed (heightOf l) (part w (8 * length (l .dh)) (freeCount (l .fixed) * heightOf l)) (take (freeCount (l .fixed)) (o .order))
     × (length (take (freeCount (l .fixed)) (o .order)) ≡ freeCount (l .fixed))
@@ -49,7 +49,7 @@ placed-step l w₀ w ch new o f st = placed-solved l w₀ w _ _ o f (st .only .l
 abbrev once : IterReport
 once = record { iterations = 1; converged = true; «final_lambda» = #0; «final_step_norm» = #0 }
 
-pub whole : (l : Lent) (b : Buffers) (w w₂ zs new moved out′ change′ sigma′ diag′ : List Float) (o : SolveOutcome) (free need : ℕ) (sky : Sky)
+pub whole : (l : FitInputs) (b : Buffers) (w w₂ zs new moved out′ change′ sigma′ diag′ : List Float) (o : SolveOutcome) (free need : ℕ) (sky : Sky)
     → Fits l (b .scratch) → free ≡ freeCount (l .fixed) → need ≡ scratchNeeded (length (l .coefficients)) (length (l .dh))
     → Stepped l (b .scratch) w moved new o
     → out′ ≡ filled (length (l .coefficients)) (at new) (b .coefficients)

@@ -12,7 +12,7 @@ ghost use Rattle.stats.specs.Stats.{skyFrom};
 ghost use Rattle.design.specs.Design.{termAt, sheetAt, cosDec, freeCount, product};
 ghost use Rattle.design.specs.Filled.{columnTo, differencesTo};
 ghost use Rattle.products.specs.Products.{Held};
-ghost use Rattle.validate.specs.Call.{Lent, lent, buffers, sizesOf};
+ghost use Rattle.solver.specs.Call.{FitInputs, inputs, buffers, sizesOf};
 ghost use Rattle.validate.specs.Questions.{Ready};
 ghost use Rattle.outcome.specs.Outcome.{outcome, Fits};
 ghost use Rattle.single_step.specs.SingleStep.{toFit, step, changeAt, fitted, fitOutcome, Stepped};
@@ -45,8 +45,8 @@ fn solve(
     fit_tol: f64,
     w: &mut [f64],
 ) -> SolveOutcome
-    ghost { Lent }
-    requires { λ l. ⌜ lent (now names) (now fixed) (now coefficients) (now dh) (now dd) (now pier) (now sheets) «sin_lat» «cos_lat» «fit_tol» ≡ l ⌝ }
+    ghost { FitInputs }
+    requires { λ l. ⌜ inputs (now names) (now fixed) (now coefficients) (now dh) (now dd) (now pier) (now sheets) «sin_lat» «cos_lat» «fit_tol» ≡ l ⌝ }
     requires { λ l. ⌜ Fits l (now w) ⌝ }
     ensures { λ l r. ⌜ (record { outcome = r; w = part (now (w .exit)) (8 * length (l .dh)) (freeCount (now (fixed .entry)) * (2 * length (l .dh) + 2 * length (now (coefficients .entry)))) }
         ≡ step l)
@@ -144,8 +144,8 @@ fn single_step_fit(
     fit_tol: f64,
     w: &mut [f64],
 ) -> Step
-    ghost { Lent }
-    requires { λ l. ⌜ lent (now names) (now fixed) (now coefficients) (now dh) (now dd) (now pier) (now sheets) «sin_lat» «cos_lat» «fit_tol» ≡ l ⌝ }
+    ghost { FitInputs }
+    requires { λ l. ⌜ inputs (now names) (now fixed) (now coefficients) (now dh) (now dd) (now pier) (now sheets) «sin_lat» «cos_lat» «fit_tol» ≡ l ⌝ }
     requires { λ l. ⌜ Fits l (now w) ⌝ }
     ensures { λ l r. ⌜ Stepped l (now (w .entry)) (now (w .exit)) (r .change) (r .coefficients) (r .solved) ⌝ }
 {
@@ -227,8 +227,8 @@ fn fit(
     diagnostics: &mut [f64],
     scratch: &mut [f64],
 ) -> FitResult
-    ghost { Lent }
-    requires { λ l. ⌜ lent (now names) (now fixed) (now coefficients) (now dh) (now dd) (now pier) (now sheets) «sin_lat» «cos_lat» «fit_tol» ≡ l ⌝ }
+    ghost { FitInputs }
+    requires { λ l. ⌜ inputs (now names) (now fixed) (now coefficients) (now dh) (now dd) (now pier) (now sheets) «sin_lat» «cos_lat» «fit_tol» ≡ l ⌝ }
     requires { λ l. ⌜ Ready l (sizesOf (buffers (now out) (now change) (now sigma) (now diagnostics) (now scratch))) ⌝ }
     ensures { λ l r. ⌜ outcome (Fit.Done r) (buffers (now (out .exit)) (now (change .exit)) (now (sigma .exit)) (now (diagnostics .exit)) (now (scratch .exit)))
         ≡ fitted l (buffers (now (out .entry)) (now (change .entry)) (now (sigma .entry)) (now (diagnostics .entry)) (now (scratch .entry))) ⌝ }
@@ -312,7 +312,7 @@ pub fn fit_model(
     scratch: &mut [f64],
 ) -> Fit
     ensures { λ r. ⌜ outcome r (buffers (now (out .exit)) (now (change .exit)) (now (sigma .exit)) (now (diagnostics .exit)) (now (scratch .exit)))
-        ≡ fitOutcome (lent (now (names .entry)) (now (fixed .entry)) (now (coefficients .entry)) (now (dh .entry)) (now (dd .entry)) (now (pier .entry)) (now (sheets .entry)) «sin_lat» «cos_lat» «fit_tol») (buffers (now (out .entry)) (now (change .entry)) (now (sigma .entry)) (now (diagnostics .entry)) (now (scratch .entry))) ⌝ }
+        ≡ fitOutcome (inputs (now (names .entry)) (now (fixed .entry)) (now (coefficients .entry)) (now (dh .entry)) (now (dd .entry)) (now (pier .entry)) (now (sheets .entry)) «sin_lat» «cos_lat» «fit_tol») (buffers (now (out .entry)) (now (change .entry)) (now (sigma .entry)) (now (diagnostics .entry)) (now (scratch .entry))) ⌝ }
 {
     let asked = validate::questions(
         names,

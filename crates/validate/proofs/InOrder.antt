@@ -10,7 +10,7 @@ use Rattle.terms.specs.Slots.{namesRefusal}
 use Rattle.terms.proofs.Parts.{stops, goes-on, numbered-itself, went-on}
 use Rattle.design.specs.Design.{freeCount}
 use Rattle.solver.specs.declared.IterOptions.{IterOptions}
-use Rattle.validate.specs.Call.{Lent, Sizes}
+use Rattle.solver.specs.Call.{FitInputs, Sizes}
 use Rattle.validate.specs.Questions.{limits, counts, room, sizesAsked, valuesAsked, termsAsked, asked}
 use Rattle.validate.specs.declared.Asked.{Asked}
 use Rattle.validate.specs.declared.Asked.the-variants.{Pass, No}
@@ -24,7 +24,7 @@ named m n names fixed dd pier sheets s e =
     let two = went-on (counts names fixed dd pier sheets m n) room-no 1 (went-on (limits m n) counts-no 0 e .1) in
     counts-facts names fixed dd pier sheets m n (two .0) .names-count
 
-module _ (l : Lent) (o : IterOptions) (s : Sizes) where
+module _ (l : FitInputs) (o : IterOptions) (s : Sizes) where
   abbrev sizes : List Question
   sizes =
       sizesAsked (length (l .coefficients)) (length (l .dh)) (length (l .names)) (length (l .fixed)) (length (l .dd)) (length (l .pier)) (length (l .sheets)) s

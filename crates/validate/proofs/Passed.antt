@@ -12,7 +12,7 @@ use Rattle.terms.specs.Slots.{namesRefusal}
 use Rattle.terms.specs.Questions.{Question, ask, firstNo}
 use Rattle.design.specs.Design.{freeCount}
 use Rattle.solver.specs.declared.IterOptions.{IterOptions}
-use Rattle.validate.specs.Call.{Lent, Sizes}
+use Rattle.solver.specs.Call.{FitInputs, Sizes}
 use Rattle.validate.specs.Questions.{limits, counts, room, scratchNeeded, finiteInput, finiteOptions, codesKnown, asked, Ready}
 use Rattle.validate.specs.declared.Asked.{Asked}
 use Rattle.validate.specs.declared.Asked.the-variants.{Pass, No}
@@ -73,7 +73,7 @@ room-facts s m n e =
       scratch-room = leb-true (scratchNeeded m n) (s .scratch) (right-of (a && b && c && d) f e);
     }
 
-pub ready : (l : Lent) (o : IterOptions) (s : Sizes) (free : ℕ) (r : Asked) → r ≡ Pass free → r ≡ asked l o s → Ready l s
+pub ready : (l : FitInputs) (o : IterOptions) (s : Sizes) (free : ℕ) (r : Asked) → r ≡ Pass free → r ≡ asked l o s → Ready l s
 unfolding asked
 ready l o s free r e q =
     let m = length (l .coefficients) in

@@ -11,7 +11,7 @@ use Rattle.terms.specs.Slots.{namesRefusal}
 use Rattle.terms.specs.Questions.{Question, ask, firstNo}
 use Rattle.design.specs.Design.{freeCount}
 use Rattle.solver.specs.declared.IterOptions.{IterOptions}
-use Rattle.validate.specs.Call.{Lent, Sizes}
+use Rattle.solver.specs.Call.{FitInputs, Sizes}
 use Rattle.validate.specs.declared.Asked.{Asked}
 use Rattle.validate.specs.declared.Asked.the-variants.{Pass, No}
 
@@ -35,7 +35,7 @@ room s m n =
     leb m (s .coefficients) && leb m (s .change) && leb m (s .sigma) && leb (3 * n) (s .diagnostics) && leb (scratchNeeded m n) (s .scratch)
 
 -- 4: every lent float is finite
-unfoldable pub finiteInput : Lent → Bool
+unfoldable pub finiteInput : FitInputs → Bool
 finiteInput l =
     every isFinite (l .coefficients) && every isFinite (l .dh) && every isFinite (l .dd) && every isFinite (l .sheets)
     && isFinite (l .sinLat) && isFinite (l .cosLat) && isFinite (l .fitTol)
@@ -55,7 +55,7 @@ abbrev pub sizesAsked : ℕ → ℕ → ℕ → ℕ → ℕ → ℕ → ℕ → 
 sizesAsked m n names fixed dd pier sheets s = ask (limits m n) 1 ∷ ask (counts names fixed dd pier sheets m n) 2 ∷ ask (room s m n) 3 ∷ []
 
 -- 4 to 6 about values
-abbrev pub valuesAsked : Lent → IterOptions → List Question
+abbrev pub valuesAsked : FitInputs → IterOptions → List Question
 valuesAsked l o =
     ask (finiteInput l && finiteOptions o) 4 ∷ ask (codesKnown (l .pier) (l .fixed)) 5 ∷ ask (leb (o .«max_iter») 1000) 6 ∷ []
 
@@ -66,7 +66,7 @@ termsAsked names fixed m n =
     let free = freeCount fixed in
     ask (eqb no 0) no ∷ ask (ltb 0 m) 11 ∷ ask (ltb 0 free) 12 ∷ ask (leb free n) 13 ∷ []
 
-unfoldable pub asked : Lent → IterOptions → Sizes → Asked
+unfoldable pub asked : FitInputs → IterOptions → Sizes → Asked
 asked l o s =
     let m = length (l .coefficients) in
     let n = length (l .dh) in
@@ -89,7 +89,7 @@ noOptions =
 
 -- ---- what a fit may count on once its questions are passed
 
-pub record Ready (l : Lent) (s : Sizes) : Type 0 where
+pub record Ready (l : FitInputs) (s : Sizes) : Type 0 where
   pub terms : length (l .coefficients) ≤ 32
   pub stars : length (l .dh) ≤ 1024
   pub names-count : length (l .names) ≡ 16 * length (l .coefficients)

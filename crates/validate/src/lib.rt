@@ -7,7 +7,7 @@ ghost use lib.Dec.{ltb};
 ghost use lib.ListN.{length};
 ghost use Rattle.sequence.specs.Sequence.{every};
 ghost use Rattle.terms.specs.Questions.{noOf};
-ghost use Rattle.validate.specs.Call.{lent, sizes};
+ghost use Rattle.solver.specs.Call.{inputs, sizes};
 ghost use Rattle.validate.specs.Questions.{limits, counts, scratchNeeded, room, finiteInput, finiteOptions, codesKnown, sizesAsked, valuesAsked, termsAsked, asked, noOptions};
 use solver::IterOptions;
 
@@ -105,7 +105,7 @@ fn finite_input(
     cos_lat: f64,
     fit_tol: f64,
 ) -> bool
-    ensures { λ r. ⌜ r ≡ finiteInput (lent (now (names .entry)) (now (fixed .entry)) (now (coefficients .entry)) (now (dh .entry)) (now (dd .entry)) (now (pier .entry)) (now (sheets .entry)) «sin_lat» «cos_lat» «fit_tol») ⌝ }
+    ensures { λ r. ⌜ r ≡ finiteInput (inputs (now (names .entry)) (now (fixed .entry)) (now (coefficients .entry)) (now (dh .entry)) (now (dd .entry)) (now (pier .entry)) (now (sheets .entry)) «sin_lat» «cos_lat» «fit_tol») ⌝ }
 {
     if !sequence::all_finite(coefficients) {
         return false;
@@ -212,7 +212,7 @@ fn values_refusal(
     fit_tol: f64,
     options: IterOptions,
 ) -> u8
-    ensures { λ r. ⌜ r ≡ noOf (valuesAsked (lent (now (names .entry)) (now (fixed .entry)) (now (coefficients .entry)) (now (dh .entry)) (now (dd .entry)) (now (pier .entry)) (now (sheets .entry)) «sin_lat» «cos_lat» «fit_tol») options) ⌝ }
+    ensures { λ r. ⌜ r ≡ noOf (valuesAsked (inputs (now (names .entry)) (now (fixed .entry)) (now (coefficients .entry)) (now (dh .entry)) (now (dd .entry)) (now (pier .entry)) (now (sheets .entry)) «sin_lat» «cos_lat» «fit_tol») options) ⌝ }
 {
     if !finite_input(
         names,
@@ -281,7 +281,7 @@ pub fn questions(
     diagnostics: usize,
     scratch: usize,
 ) -> Asked
-    ensures { λ r. ⌜ r ≡ asked (lent (now (names .entry)) (now (fixed .entry)) (now (coefficients .entry)) (now (dh .entry)) (now (dd .entry)) (now (pier .entry)) (now (sheets .entry)) «sin_lat» «cos_lat» «fit_tol») options (sizes out change sigma diagnostics scratch) ⌝ }
+    ensures { λ r. ⌜ r ≡ asked (inputs (now (names .entry)) (now (fixed .entry)) (now (coefficients .entry)) (now (dh .entry)) (now (dd .entry)) (now (pier .entry)) (now (sheets .entry)) «sin_lat» «cos_lat» «fit_tol») options (sizes out change sigma diagnostics scratch) ⌝ }
 {
     let m = coefficients.len();
     let n = dh.len();

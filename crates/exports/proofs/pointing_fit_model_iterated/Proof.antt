@@ -1,5 +1,5 @@
 -- `exports::pointing_fit_model_iterated` meets its contract. Assumes nothing.
-use Rattle.validate.specs.Call.{lent, buffers}
+use Rattle.solver.specs.Call.{inputs, buffers}
 use Rattle.exports.proofs.Answered.{answered-iterated}
 use borrow.Author.Needs.{needs}
 use Rattle.exports.proofs.pointing_fit_model_iterated.Statement.{statement}
@@ -29,7 +29,7 @@ same-length-5 c = search needs
 returns : tie.Need-returns
 returns c =
     let a = c .before .before .before .before .before .before .before .before .before .before .before .before .before .before .before .before .before .before .before .before .before .before .before .before .before .before .before .before .before .args in
-    answered-iterated (lent (a .names .now) (a .fixed .now) (a .coefficients .now) (a .dh .now) (a .dd .now) (a .pier .now) (a .sheets .now) (a .sin-lat) (a .cos-lat) (a .fit-tol)) _ (buffers (a .out .now) (a .change .now) (a .sigma .now) (a .diagnostics .now) (a .scratch .now)) _ _ _ (c .before .before .before .before .before .before .before .before .before .before .before .fit-model-iterated .ensures) (c .answer .ensures)
+    answered-iterated (inputs (a .names .now) (a .fixed .now) (a .coefficients .now) (a .dh .now) (a .dd .now) (a .pier .now) (a .sheets .now) (a .sin-lat) (a .cos-lat) (a .fit-tol)) _ (buffers (a .out .now) (a .change .now) (a .sigma .now) (a .diagnostics .now) (a .scratch .now)) _ _ _ (c .before .before .before .before .before .before .before .before .before .before .before .fit-model-iterated .ensures) (c .answer .ensures)
 
 pub pointing-fit-model-iterated-spec : {M : Type 1} → statement M
 pointing-fit-model-iterated-spec =

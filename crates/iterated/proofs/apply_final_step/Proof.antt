@@ -3,7 +3,7 @@ use mathlib.Core.Path.{ap, _∙_}
 use mathlib.Core.Logic.{inl, inr}
 use native.Mathlib.Omega.{arith}
 use lib.ListN.{length}
-use Rattle.validate.specs.Call.{lent}
+use Rattle.solver.specs.Call.{inputs}
 use Rattle.iterated.proofs.Laws.{tried-last, last-kept, last-not}
 use borrow.Author.Needs.{needs}
 use Rattle.iterated.proofs.apply_final_step.Statement.{statement}
@@ -44,7 +44,7 @@ returns c =
     let s = c .before .before .before .before .before .before .before .before .before .before .before .before .before .before .before .before .before .before .before .before .before .before .before .before in
     let a = s .args in
     let f = c .before .before .free-residuals in
-    let l = (lent (a .names .now) (a .fixed .now) (a .set .now) (a .dh .now) (a .dd .now) (a .pier .now) (a .sheets .now) (a .sin-lat) (a .cos-lat) (a .fit-tol)) in
+    let l = (inputs (a .names .now) (a .fixed .now) (a .set .now) (a .dh .now) (a .dd .now) (a .pier .now) (a .sheets .now) (a .sin-lat) (a .cos-lat) (a .fit-tol)) in
     let w₁ = last .last .1 .1 .1 .1 .1 .1 .1 .1 .1 .1 .1 .1 .0 in
     tried-last l (a .options) (a .chi2) (k .result) (k .ensures) (a .w .now) w₁ _ (last .result .set) (last .result .chi2) (last .result .solved) (s .pre .0) (last .ensures) (f .ensures) _ _
     (elim (c .before .before .before .before .before .if1 .came) [

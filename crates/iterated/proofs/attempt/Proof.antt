@@ -1,7 +1,7 @@
 -- `iterated::attempt` meets its contract. Assumes nothing.
 use mathlib.Core.Path.{refl}
 use native.Mathlib.Omega.{arith}
-use Rattle.validate.specs.Call.{lent}
+use Rattle.solver.specs.Call.{inputs}
 use Rattle.iterated.proofs.Laws.{fits-under, within-next, within-front, accepted, accepted-left-by, rejected}
 use borrow.Author.Needs.{needs}
 use Rattle.iterated.proofs.attempt.Statement.{statement}
@@ -31,7 +31,7 @@ returns c =
     let k = c .before .before .before .before .before .before .before .before .before .before .before .before .before .before .before .before .before .huber-threshold in
     let s = c .before .before .before .before .before .before .before .before .before .before .before .before .before .before .before .before .before .before .before .before .before .before .before .before .before .before in
     let a = s .args in
-    let l = (lent (a .names .now) (a .fixed .now) (a .set .now) (a .dh .now) (a .dd .now) (a .pier .now) (a .sheets .now) (a .sin-lat) (a .cos-lat) (a .fit-tol)) in (
+    let l = (inputs (a .names .now) (a .fixed .now) (a .set .now) (a .dh .now) (a .dd .now) (a .pier .now) (a .sheets .now) (a .sin-lat) (a .cos-lat) (a .fit-tol)) in (
       accepted l (a .options) (a .chi2) (a .lambda) (k .result) (k .ensures) (a .w .now) (next .last .1 .1 .1 .1 .1 .1 .1 .1 .1 .1 .1 .1 .0) (next .result .set) (next .result .chi2) (next .result .solved) (s .pre .0) (next .ensures) _ _ (c .before .before .before .before .before .before .before .if1 .taken) (c .rotational-step-norm .ensures) (c .before .before .before .before .copy .ensures),
       next .ensures .step .only,
       accepted-left-by l (a .options) (a .chi2) (a .lambda) (k .result) (k .ensures) (a .w .now) (next .last .1 .1 .1 .1 .1 .1 .1 .1 .1 .1 .1 .1 .0) (next .result .set) (next .result .chi2) (next .result .solved) (s .pre .0) (next .ensures) _ (c .before .before .before .before .copy .ensures),
@@ -41,7 +41,7 @@ residuals-under-state-requires : tie.Need-residuals-under-state-requires
 residuals-under-state-requires c κs =
     let s = c .before .before .before .before .before .before .before .before .before .before .before .before .before .before .before .before .before .before .before .before .before in
     let a = s .args in
-    fits-under (lent (a .names .now) (a .fixed .now) (a .set .now) (a .dh .now) (a .dd .now) (a .pier .now) (a .sheets .now) (a .sin-lat) (a .cos-lat) (a .fit-tol)) (a .set .now) (a .w .now) _ (s .pre .0) refl (c .before .before .before .before .before .before .before .before .before .propose .ensures .step .only .long)
+    fits-under (inputs (a .names .now) (a .fixed .now) (a .set .now) (a .dh .now) (a .dd .now) (a .pier .now) (a .sheets .now) (a .sin-lat) (a .cos-lat) (a .fit-tol)) (a .set .now) (a .w .now) _ (s .pre .0) refl (c .before .before .before .before .before .before .before .before .before .propose .ensures .step .only .long)
 
 same-length-3 : tie.Need-same-length-3
 same-length-3 c = search needs
@@ -56,7 +56,7 @@ returns-2 c =
     let r = c .before .before .before .residuals-under-state in
     let s = c .before .before .before .before .before .before .before .before .before .before .before .before .before .before .before .before .before .before .before .before .before .before .before .before .before in
     let a = s .args in
-    let l = (lent (a .names .now) (a .fixed .now) (a .set .now) (a .dh .now) (a .dd .now) (a .pier .now) (a .sheets .now) (a .sin-lat) (a .cos-lat) (a .fit-tol)) in (
+    let l = (inputs (a .names .now) (a .fixed .now) (a .set .now) (a .dh .now) (a .dd .now) (a .pier .now) (a .sheets .now) (a .sin-lat) (a .cos-lat) (a .fit-tol)) in (
       rejected l (a .options) (a .chi2) (a .lambda) (k .result) (k .ensures) (a .w .now) (next .last .1 .1 .1 .1 .1 .1 .1 .1 .1 .1 .1 .1 .0) (next .result .set) (next .result .chi2) (next .result .solved) (s .pre .0) (next .ensures) (c .before .before .before .before .before .before .if1 .left),
       within-next l (a .set .now) (a .w .now) (next .last .1 .1 .1 .1 .1 .1 .1 .1 .1 .1 .1 .1 .0) _ refl (next .ensures .step .only) (within-front l (next .last .1 .1 .1 .1 .1 .1 .1 .1 .1 .1 .1 .1 .0) _ (r .ensures .1)),
       r .ensures .0,

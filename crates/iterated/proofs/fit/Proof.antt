@@ -4,7 +4,7 @@ use Prim.Native.Nat.{_≤_}
 use native.Mathlib.Omega.{arith}
 use lib.ListN.{length}
 use lib.Seq.{length-take-le}
-use Rattle.validate.specs.Call.{lent, buffers}
+use Rattle.solver.specs.Call.{inputs, buffers}
 use Rattle.outcome.proofs.Laws.{fits-ready, refilled}
 use Rattle.iterated.proofs.Outcome.{placed-last, whole}
 use borrow.Author.Needs.{needs}
@@ -18,7 +18,7 @@ free-count-requires : tie.Need-free-count-requires
 free-count-requires c κs = search needs
 
 fit-set-requires : tie.Need-fit-set-requires
-fit-set-requires c κs = let s = c .before .before .before .before .before .before .before .before .before .before .before .before .before .before .before in let a = s .args in fits-ready (lent (a .names .now) (a .fixed .now) (a .coefficients .now) (a .dh .now) (a .dd .now) (a .pier .now) (a .sheets .now) (a .sin-lat) (a .cos-lat) (a .fit-tol)) (buffers (a .out .now) (a .change .now) (a .sigma .now) (a .diagnostics .now) (a .scratch .now)) (s .pre)
+fit-set-requires c κs = let s = c .before .before .before .before .before .before .before .before .before .before .before .before .before .before .before in let a = s .args in fits-ready (inputs (a .names .now) (a .fixed .now) (a .coefficients .now) (a .dh .now) (a .dd .now) (a .pier .now) (a .sheets .now) (a .sin-lat) (a .cos-lat) (a .fit-tol)) (buffers (a .out .now) (a .change .now) (a .sigma .now) (a .diagnostics .now) (a .scratch .now)) (s .pre)
 
 array-share-prefix-set : tie.Need-array-share-prefix-set
 array-share-prefix-set c = omega (arith, c .before .before .before .before .before .before .before .before .before .before .before .before .before .before .before .before .before .before .before .before .before .pre .terms, c .before .before .before .before .before .fit-set .ensures .long)
@@ -40,7 +40,7 @@ statistics-requires c κs =
     let t = c .before .before .before .before .before .before .before .before .before .before .before .before .before .before .before .before .before .before .before .before .fit-set in
     let s = c .before .before .before .before .before .before .before .before .before .before .before .before .before .before .before .before .before .before .before .before .before .before .before .before .before .before .before .before .before .before .before .before .before .before .before .before in
     let a = s .args in
-    let p = placed-last (lent (a .names .now) (a .fixed .now) (a .coefficients .now) (a .dh .now) (a .dd .now) (a .pier .now) (a .sheets .now) (a .sin-lat) (a .cos-lat) (a .fit-tol)) (a .options) (a .scratch .now) _ (t .result .set) (t .result .chi2) (t .result .lm) (t .result .solved) (fits-ready (lent (a .names .now) (a .fixed .now) (a .coefficients .now) (a .dh .now) (a .dd .now) (a .pier .now) (a .sheets .now) (a .sin-lat) (a .cos-lat) (a .fit-tol)) (buffers (a .out .now) (a .change .now) (a .sigma .now) (a .diagnostics .now) (a .scratch .now)) (s .pre)) (t .ensures) in
+    let p = placed-last (inputs (a .names .now) (a .fixed .now) (a .coefficients .now) (a .dh .now) (a .dd .now) (a .pier .now) (a .sheets .now) (a .sin-lat) (a .cos-lat) (a .fit-tol)) (a .options) (a .scratch .now) _ (t .result .set) (t .result .chi2) (t .result .lm) (t .result .solved) (fits-ready (inputs (a .names .now) (a .fixed .now) (a .coefficients .now) (a .dh .now) (a .dd .now) (a .pier .now) (a .sheets .now) (a .sin-lat) (a .cos-lat) (a .fit-tol)) (buffers (a .out .now) (a .change .now) (a .sigma .now) (a .diagnostics .now) (a .scratch .now)) (s .pre)) (t .ensures) in
     (s .pre .stars, s .pre .terms, s .pre .fixed-count, p .0, p .1, p .2, s .pre .sigma-room, s .pre .diagnostics-room)
 
 sky-of-sum-requires : tie.Need-sky-of-sum-requires
@@ -91,8 +91,8 @@ returns c =
     let a = s .args in
     let w = t .last .1 .1 .1 .1 .1 .1 .1 .1 .1 .1 .1 .0 in
     let room : k .result ≤ length w = omega (arith, s .pre .scratch-room, k .ensures, t .ensures .last .only .long) in
-    whole (lent (a .names .now) (a .fixed .now) (a .coefficients .now) (a .dh .now) (a .dd .now) (a .pier .now) (a .sheets .now) (a .sin-lat) (a .cos-lat) (a .fit-tol)) (a .options) (buffers (a .out .now) (a .change .now) (a .sigma .now) (a .diagnostics .now) (a .scratch .now)) w (fill .last .0) (t .result .set) (moved .result) _ _ _ _ (t .result .chi2) (t .result .lm) (t .result .solved) (count .result) (k .result) (sky .result)
-    (fits-ready (lent (a .names .now) (a .fixed .now) (a .coefficients .now) (a .dh .now) (a .dd .now) (a .pier .now) (a .sheets .now) (a .sin-lat) (a .cos-lat) (a .fit-tol)) (buffers (a .out .now) (a .change .now) (a .sigma .now) (a .diagnostics .now) (a .scratch .now)) (s .pre)) (count .ensures) (k .ensures) (t .ensures) (moved .ensures) (c .before .before .before .before .before .before .before .before .before .before .before .before .before .before .before .before .before .before .before .before .copy .ensures) (c .before .before .before .before .before .before .before .before .before .before .before .before .before .before .before .copy2 .ensures) (c .before .before .before .before .before .before .before .before .before .statistics .ensures) (sky .ensures) room (fill .ensures)
+    whole (inputs (a .names .now) (a .fixed .now) (a .coefficients .now) (a .dh .now) (a .dd .now) (a .pier .now) (a .sheets .now) (a .sin-lat) (a .cos-lat) (a .fit-tol)) (a .options) (buffers (a .out .now) (a .change .now) (a .sigma .now) (a .diagnostics .now) (a .scratch .now)) w (fill .last .0) (t .result .set) (moved .result) _ _ _ _ (t .result .chi2) (t .result .lm) (t .result .solved) (count .result) (k .result) (sky .result)
+    (fits-ready (inputs (a .names .now) (a .fixed .now) (a .coefficients .now) (a .dh .now) (a .dd .now) (a .pier .now) (a .sheets .now) (a .sin-lat) (a .cos-lat) (a .fit-tol)) (buffers (a .out .now) (a .change .now) (a .sigma .now) (a .diagnostics .now) (a .scratch .now)) (s .pre)) (count .ensures) (k .ensures) (t .ensures) (moved .ensures) (c .before .before .before .before .before .before .before .before .before .before .before .before .before .before .before .before .before .before .before .before .copy .ensures) (c .before .before .before .before .before .before .before .before .before .before .before .before .before .before .before .copy2 .ensures) (c .before .before .before .before .before .before .before .before .before .statistics .ensures) (sky .ensures) room (fill .ensures)
 
 pub fit-spec : {M : Type 1} → statement M
 fit-spec =

@@ -1,5 +1,5 @@
 -- `iterated::fit_model_iterated` meets its contract. Assumes nothing.
-use Rattle.validate.specs.Call.{lent, buffers, sizesOf}
+use Rattle.solver.specs.Call.{inputs, buffers, sizesOf}
 use Rattle.validate.proofs.Passed.{ready}
 use Rattle.iterated.proofs.Outcome.{refused, accepted}
 use borrow.Author.Needs.{needs}
@@ -18,12 +18,12 @@ enum-known-asked-2 c = search needs
 fit-requires : tie.Need-fit-requires
 fit-requires c κs =
     let a = c .before .before .before .before .before .before .before .before .before .before .before .before .before .before .before .before .before .before .before .before .before .args in
-    ready (lent (a .names .now) (a .fixed .now) (a .coefficients .now) (a .dh .now) (a .dd .now) (a .pier .now) (a .sheets .now) (a .sin-lat) (a .cos-lat) (a .fit-tol)) (a .options) (sizesOf (buffers (a .out .now) (a .change .now) (a .sigma .now) (a .diagnostics .now) (a .scratch .now))) _ _ (c .before .before .before .before .before .before .asked2 .given .1) (c .before .before .before .before .before .before .before .before .questions .ensures)
+    ready (inputs (a .names .now) (a .fixed .now) (a .coefficients .now) (a .dh .now) (a .dd .now) (a .pier .now) (a .sheets .now) (a .sin-lat) (a .cos-lat) (a .fit-tol)) (a .options) (sizesOf (buffers (a .out .now) (a .change .now) (a .sigma .now) (a .diagnostics .now) (a .scratch .now))) _ _ (c .before .before .before .before .before .before .asked2 .given .1) (c .before .before .before .before .before .before .before .before .questions .ensures)
 
 returns : tie.Need-returns
 returns c =
     let a = c .before .before .before .before .before .before .before .before .before .before .before .before .before .before .before .before .args in
-    refused (lent (a .names .now) (a .fixed .now) (a .coefficients .now) (a .dh .now) (a .dd .now) (a .pier .now) (a .sheets .now) (a .sin-lat) (a .cos-lat) (a .fit-tol)) (a .options) (buffers (a .out .now) (a .change .now) (a .sigma .now) (a .diagnostics .now) (a .scratch .now)) _ _ (c .before .asked .given .1) (c .before .before .before .questions .ensures)
+    refused (inputs (a .names .now) (a .fixed .now) (a .coefficients .now) (a .dh .now) (a .dd .now) (a .pier .now) (a .sheets .now) (a .sin-lat) (a .cos-lat) (a .fit-tol)) (a .options) (buffers (a .out .now) (a .change .now) (a .sigma .now) (a .diagnostics .now) (a .scratch .now)) _ _ (c .before .asked .given .1) (c .before .before .before .questions .ensures)
 
 same-length : tie.Need-same-length
 same-length c = search needs
@@ -43,7 +43,7 @@ same-length-5 c = search needs
 returns-2 : tie.Need-returns-2
 returns-2 c =
     let a = c .before .before .before .before .before .before .before .before .before .before .before .before .before .before .before .before .before .before .before .before .before .before .before .before .before .before .before .before .before .before .before .before .args in
-    accepted (lent (a .names .now) (a .fixed .now) (a .coefficients .now) (a .dh .now) (a .dd .now) (a .pier .now) (a .sheets .now) (a .sin-lat) (a .cos-lat) (a .fit-tol)) (a .options) (buffers (a .out .now) (a .change .now) (a .sigma .now) (a .diagnostics .now) (a .scratch .now)) _ _ _ _ _ _ _ _ (c .before .before .before .before .before .before .before .before .before .before .before .before .before .before .before .before .before .asked2 .given .1) (c .before .before .before .before .before .before .before .before .before .before .before .before .before .before .before .before .before .before .before .questions .ensures) (c .before .before .before .before .before .before .before .before .before .before .fit .ensures)
+    accepted (inputs (a .names .now) (a .fixed .now) (a .coefficients .now) (a .dh .now) (a .dd .now) (a .pier .now) (a .sheets .now) (a .sin-lat) (a .cos-lat) (a .fit-tol)) (a .options) (buffers (a .out .now) (a .change .now) (a .sigma .now) (a .diagnostics .now) (a .scratch .now)) _ _ _ _ _ _ _ _ (c .before .before .before .before .before .before .before .before .before .before .before .before .before .before .before .before .before .asked2 .given .1) (c .before .before .before .before .before .before .before .before .before .before .before .before .before .before .before .before .before .before .before .questions .ensures) (c .before .before .before .before .before .before .before .before .before .before .fit .ensures)
 
 pub fit-model-iterated-spec : {M : Type 1} → statement M
 fit-model-iterated-spec =

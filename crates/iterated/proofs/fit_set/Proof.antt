@@ -4,7 +4,7 @@ use native.Mathlib.Omega.{arith}
 use lib.ListN.{length}
 use mathlib.Core.List.{List}
 use lib.Ieee.{Float}
-use Rattle.validate.specs.Call.{lent}
+use Rattle.solver.specs.Call.{inputs}
 use Rattle.lm_system.specs.System.{residuals}
 use Rattle.iterated.specs.Iterated.{under}
 use Rattle.iterated.proofs.Laws.{fits-under}
@@ -26,7 +26,7 @@ run-lm-loop-requires : tie.Need-run-lm-loop-requires
 run-lm-loop-requires c κs =
     let s = c .before .before .before .before .before .before .before .before .before .before .before in
     let a = s .args in
-    fits-under (lent (a .names .now) (a .fixed .now) (a .coefficients .now) (a .dh .now) (a .dd .now) (a .pier .now) (a .sheets .now) (a .sin-lat) (a .cos-lat) (a .fit-tol)) _ (a .w .now) _ (s .pre) (ap length (front-is (a .coefficients .now) (c .before .before .padded .result) (s .pre .terms) (c .before .before .padded .ensures))) refl
+    fits-under (inputs (a .names .now) (a .fixed .now) (a .coefficients .now) (a .dh .now) (a .dd .now) (a .pier .now) (a .sheets .now) (a .sin-lat) (a .cos-lat) (a .fit-tol)) _ (a .w .now) _ (s .pre) (ap length (front-is (a .coefficients .now) (c .before .before .padded .result) (s .pre .terms) (c .before .before .padded .ensures))) refl
 
 array-borrow-prefix-set-2 : tie.Need-array-borrow-prefix-set-2
 array-borrow-prefix-set-2 c =
@@ -53,8 +53,8 @@ apply-final-step-requires c κs =
     let ys = r .last .1 .1 .1 .1 .1 .1 .1 .1 .1 .1 .0 in
     let kept = r .kept .1 .1 .1 .1 .1 .1 .1 .1 .1 .1 .0 in
     let long = array-long cs (p .result) (s .pre .terms) (p .ensures) in (
-      fits-under (lent (a .names .now) (a .fixed .now) (a .coefficients .now) (a .dh .now) (a .dd .now) (a .pier .now) (a .sheets .now) (a .sin-lat) (a .cos-lat) (a .fit-tol)) _ (a .w .now) _ (s .pre) (back-count (length cs) (p .result) ys (s .pre .terms) long kept) (r .ensures .1 .long),
-      r .ensures .2 ∙ ap (λ (z : List Float). residuals (under (lent (a .names .now) (a .fixed .now) (a .coefficients .now) (a .dh .now) (a .dd .now) (a .pier .now) (a .sheets .now) (a .sin-lat) (a .cos-lat) (a .fit-tol)) z)) (sym (back-front (length cs) (p .result) ys (s .pre .terms) long kept)),
+      fits-under (inputs (a .names .now) (a .fixed .now) (a .coefficients .now) (a .dh .now) (a .dd .now) (a .pier .now) (a .sheets .now) (a .sin-lat) (a .cos-lat) (a .fit-tol)) _ (a .w .now) _ (s .pre) (back-count (length cs) (p .result) ys (s .pre .terms) long kept) (r .ensures .1 .long),
+      r .ensures .2 ∙ ap (λ (z : List Float). residuals (under (inputs (a .names .now) (a .fixed .now) (a .coefficients .now) (a .dh .now) (a .dd .now) (a .pier .now) (a .sheets .now) (a .sin-lat) (a .cos-lat) (a .fit-tol)) z)) (sym (back-front (length cs) (p .result) ys (s .pre .terms) long kept)),
     )
 
 same-length : tie.Need-same-length
@@ -67,7 +67,7 @@ returns c =
     let p = c .before .before .before .before .before .before .before .before .before .before .before .before .before .padded in
     let r = c .before .before .before .before .before .before .before .before .before .before .run-lm-loop in
     let t = c .before .before .before .before .apply-final-step in
-    searches (lent (a .names .now) (a .fixed .now) (a .coefficients .now) (a .dh .now) (a .dd .now) (a .pier .now) (a .sheets .now) (a .sin-lat) (a .cos-lat) (a .fit-tol)) (a .options) (p .result) (r .last .1 .1 .1 .1 .1 .1 .1 .1 .1 .1 .0) (t .last .1 .1 .1 .1 .1 .1 .1 .1 .1 .1 .1 .0) (a .w .now) (r .last .1 .1 .1 .1 .1 .1 .1 .1 .1 .1 .1 .0) _ (r .result) (t .result .chi2) (t .result .solved) (s .pre) (p .ensures)
+    searches (inputs (a .names .now) (a .fixed .now) (a .coefficients .now) (a .dh .now) (a .dd .now) (a .pier .now) (a .sheets .now) (a .sin-lat) (a .cos-lat) (a .fit-tol)) (a .options) (p .result) (r .last .1 .1 .1 .1 .1 .1 .1 .1 .1 .1 .0) (t .last .1 .1 .1 .1 .1 .1 .1 .1 .1 .1 .1 .0) (a .w .now) (r .last .1 .1 .1 .1 .1 .1 .1 .1 .1 .1 .1 .0) _ (r .result) (t .result .chi2) (t .result .solved) (s .pre) (p .ensures)
     (r .kept .1 .1 .1 .1 .1 .1 .1 .1 .1 .1 .0) (r .ensures) (t .kept .1 .1 .1 .1 .1 .1 .1 .1 .1 .1 .1 .0) (t .ensures)
 
 pub fit-set-spec : {M : Type 1} → statement M

@@ -1,7 +1,7 @@
 -- `iterated::propose` meets its contract. Assumes nothing.
 use mathlib.Core.Path.{sym, ap, _∙_}
 use lib.ListN.{length, take}
-use Rattle.validate.specs.Call.{lent}
+use Rattle.solver.specs.Call.{inputs}
 use Rattle.iterated.proofs.Laws.{fits-under, moved-front, moved-length, proposes}
 use borrow.Author.Needs.{needs}
 use Rattle.iterated.proofs.propose.Statement.{statement}
@@ -30,7 +30,7 @@ chi2-at-state-requires c κs =
     let s = c .before .before .before .before .before .before .before .before .before .before .before .before .before .before .before .before .before in
     let a = s .args in
     let front = moved-front (a .fixed .now) (step .lm-step .result .x) (a .set .now) (trial .trial-state-from .result) (trial .trial-state-from .ensures) in
-    fits-under (lent (a .names .now) (a .fixed .now) (a .set .now) (a .dh .now) (a .dd .now) (a .pier .now) (a .sheets .now) (a .sin-lat) (a .cos-lat) (a .fit-tol)) (take (length (a .set .now)) (trial .trial-state-from .result)) (a .w .now) _ (s .pre .0) (ap length front ∙ moved-length (a .fixed .now) (step .lm-step .result .x) (a .set .now)) (step .lm-step .ensures .only .long)
+    fits-under (inputs (a .names .now) (a .fixed .now) (a .set .now) (a .dh .now) (a .dd .now) (a .pier .now) (a .sheets .now) (a .sin-lat) (a .cos-lat) (a .fit-tol)) (take (length (a .set .now)) (trial .trial-state-from .result)) (a .w .now) _ (s .pre .0) (ap length front ∙ moved-length (a .fixed .now) (step .lm-step .result .x) (a .set .now)) (step .lm-step .ensures .only .long)
 
 same-length : tie.Need-same-length
 same-length c = search needs
@@ -42,7 +42,7 @@ returns c =
     let step = c .before .before .before .before .before .before .before .before .before .before in
     let s = c .before .before .before .before .before .before .before .before .before .before .before .before .before .before .before .before .before .before .before .before in
     let a = s .args in
-    proposes (lent (a .names .now) (a .fixed .now) (a .set .now) (a .dh .now) (a .dd .now) (a .pier .now) (a .sheets .now) (a .sin-lat) (a .cos-lat) (a .fit-tol)) (a .k) (a .lambda) (a .w .now) (step .lm-step .last .1 .1 .1 .1 .1 .1 .1 .1 .1 .1 .1 .1 .0) _ (trial .trial-state-from .result) _ (step .lm-step .result) (s .pre .0) (step .lm-step .ensures) (trial .trial-state-from .ensures) (chi2 .chi2-at-state .ensures)
+    proposes (inputs (a .names .now) (a .fixed .now) (a .set .now) (a .dh .now) (a .dd .now) (a .pier .now) (a .sheets .now) (a .sin-lat) (a .cos-lat) (a .fit-tol)) (a .k) (a .lambda) (a .w .now) (step .lm-step .last .1 .1 .1 .1 .1 .1 .1 .1 .1 .1 .1 .1 .0) _ (trial .trial-state-from .result) _ (step .lm-step .result) (s .pre .0) (step .lm-step .ensures) (trial .trial-state-from .ensures) (chi2 .chi2-at-state .ensures)
 
 pub propose-spec : {M : Type 1} → statement M
 propose-spec =

@@ -9,7 +9,7 @@ use lib.Ieee.{ofBits, div}
 use Rattle.sequence.proofs.Only.{only-none}
 use Rattle.best.specs.Trials.{after}
 use Rattle.best.proofs.Turns.{begins, ran-out}
-use Rattle.validate.specs.Call.{lent}
+use Rattle.solver.specs.Call.{inputs}
 use Rattle.outcome.specs.Outcome.{heightOf}
 use Rattle.lm_system.specs.System.{Left}
 use Rattle.iterated.specs.Iterated.{under, trials, report, begin, lmLoop, Within}
@@ -20,7 +20,7 @@ use Rattle.iterated.proofs.run_lm_loop.Tie as tie
 
 abbrev Inv-loop : tie.InvT-loop
 Inv-loop names fixed dh dd pier sheets sin-lat cos-lat fit-tol options set₀ w₀ limit chi2₀ lambda₀ iterations₀ converged₀ last-step-norm₀ set w chi2 lambda iterations converged last-step-norm =
-    let l = lent names fixed set₀ dh dd pier sheets sin-lat cos-lat fit-tol in
+    let l = inputs names fixed set₀ dh dd pier sheets sin-lat cos-lat fit-tol in
     (iterations ≤ limit) × (limit ≡ options .«max_iter») × (length set ≡ length set₀) × (length w ≡ length w₀) × (converged ≡ false)
     × (lmLoop l options ≡ after (trials l options) (limit - iterations) (report set iterations false lambda last-step-norm chi2)) × Within l w₀ w × Left (under l set) w
 
@@ -34,7 +34,7 @@ loop-holds : tie.Need-loop-holds Inv-loop μ-loop
 unfolding lmLoop div ofBits
 loop-holds c =
     let a = c .before .before .before .before .before .before .before .before .before .before .before .before .before .args in
-    let l = (lent (a .names .now) (a .fixed .now) (a .set .now) (a .dh .now) (a .dd .now) (a .pier .now) (a .sheets .now) (a .sin-lat) (a .cos-lat) (a .fit-tol)) in
+    let l = (inputs (a .names .now) (a .fixed .now) (a .set .now) (a .dh .now) (a .dd .now) (a .pier .now) (a .sheets .now) (a .sin-lat) (a .cos-lat) (a .fit-tol)) in
     (search needs, refl, refl, refl, refl, begins (trials l (a .options)) (a .options .«max_iter») (begin l (a .options)) ∙ rw (c .before .before .chi2-at-state .ensures .0), only-none 0 (8 * length (a .dh .now) + length (a .set .now) * heightOf l) _, c .before .before .chi2-at-state .ensures .1)
 
 add-iterations : tie.Need-add-iterations Inv-loop μ-loop
@@ -45,7 +45,7 @@ attempt-requires c κs =
     let u = c .before .before .before .loop in
     let s = c .before .before .before .before .before .before .before .before .before .before .before .before .before .before .before .before .before in
     let a = s .args in
-    (fits-under (lent (a .names .now) (a .fixed .now) (a .set .now) (a .dh .now) (a .dd .now) (a .pier .now) (a .sheets .now) (a .sin-lat) (a .cos-lat) (a .fit-tol)) (u .set) (a .w .now) (u .w) (s .pre) (u .inv .2) (u .inv .3 ∙ c .before .before .before .before .before .before .chi2-at-state .ensures .2 .long), u .inv .7)
+    (fits-under (inputs (a .names .now) (a .fixed .now) (a .set .now) (a .dh .now) (a .dd .now) (a .pier .now) (a .sheets .now) (a .sin-lat) (a .cos-lat) (a .fit-tol)) (u .set) (a .w .now) (u .w) (s .pre) (u .inv .2) (u .inv .3 ∙ c .before .before .before .before .before .before .chi2-at-state .ensures .2 .long), u .inv .7)
 
 enum-known-trial : tie.Need-enum-known-trial Inv-loop μ-loop
 enum-known-trial c = search needs
@@ -58,7 +58,7 @@ loop-again c =
     let u = c .before .before .before .before .before .before .before .before .before .before .before .before .before .before .loop in
     let t = c .before .before .before .before .before .before .before .before .before .before .attempt in
     let a = c .before .before .before .before .before .before .before .before .before .before .before .before .before .before .before .before .before .before .before .before .before .before .before .before .before .before .before .before .args in
-    let l = (lent (a .names .now) (a .fixed .now) (a .set .now) (a .dh .now) (a .dd .now) (a .pier .now) (a .sheets .now) (a .sin-lat) (a .cos-lat) (a .fit-tol)) in (
+    let l = (inputs (a .names .now) (a .fixed .now) (a .set .now) (a .dh .now) (a .dd .now) (a .pier .now) (a .sheets .now) (a .sin-lat) (a .cos-lat) (a .fit-tol)) in (
       omega (arith, c .before .before .before .before .before .before .before .before .before .before .before .before .before .loop-test .taken),
       u .inv .1,
       search needs,
@@ -80,7 +80,7 @@ loop-again-2 c =
     let u = c .before .before .before .before .before .before .before .before .before .before .before .before .loop in
     let t = c .before .before .before .before .before .before .before .before .attempt in
     let a = c .before .before .before .before .before .before .before .before .before .before .before .before .before .before .before .before .before .before .before .before .before .before .before .before .before .before .args in
-    let l = (lent (a .names .now) (a .fixed .now) (a .set .now) (a .dh .now) (a .dd .now) (a .pier .now) (a .sheets .now) (a .sin-lat) (a .cos-lat) (a .fit-tol)) in (
+    let l = (inputs (a .names .now) (a .fixed .now) (a .set .now) (a .dh .now) (a .dd .now) (a .pier .now) (a .sheets .now) (a .sin-lat) (a .cos-lat) (a .fit-tol)) in (
       omega (arith, c .before .before .before .before .before .before .before .before .before .before .before .loop-test .taken),
       u .inv .1,
       search needs,
@@ -101,7 +101,7 @@ returns : tie.Need-returns Inv-loop μ-loop
 returns c =
     let u = c .before .loop in
     let a = c .before .before .before .before .before .before .before .before .before .before .before .before .before .before .before .args in
-    let l = (lent (a .names .now) (a .fixed .now) (a .set .now) (a .dh .now) (a .dd .now) (a .pier .now) (a .sheets .now) (a .sin-lat) (a .cos-lat) (a .fit-tol)) in (
+    let l = (inputs (a .names .now) (a .fixed .now) (a .set .now) (a .dh .now) (a .dd .now) (a .pier .now) (a .sheets .now) (a .sin-lat) (a .cos-lat) (a .fit-tol)) in (
       rw (u .inv .4) (ran-out (trials l (a .options)) (a .options .«max_iter») _ _ (u .iterations) (c .loop-test .left) (u .inv .5)),
       within-next l (a .set .now) (a .w .now) _ (u .w) refl (within-front l (a .w .now) _ (c .before .before .before .before .chi2-at-state .ensures .2)) (u .inv .6),
       u .inv .7,
@@ -118,7 +118,7 @@ returns-2 c =
     let u = c .before .before .before .before .before .before .before .before .before .before .before .before .before .before .loop in
     let t = c .before .before .before .before .before .before .before .before .before .before .attempt in
     let a = c .before .before .before .before .before .before .before .before .before .before .before .before .before .before .before .before .before .before .before .before .before .before .before .before .before .before .before .before .args in
-    let l = (lent (a .names .now) (a .fixed .now) (a .set .now) (a .dh .now) (a .dd .now) (a .pier .now) (a .sheets .now) (a .sin-lat) (a .cos-lat) (a .fit-tol)) in (
+    let l = (inputs (a .names .now) (a .fixed .now) (a .set .now) (a .dh .now) (a .dd .now) (a .pier .now) (a .sheets .now) (a .sin-lat) (a .cos-lat) (a .fit-tol)) in (
       accepted-left l (a .options) _ (u .set) (u .chi2) (u .lambda) (u .last-step-norm) (u .iterations) (c .before .before .before .before .before .before .before .before .before .before .before .before .before .loop-test .taken) (u .inv .5) _ _ (t .ensures .0 ∙ trial-same l (u .set) (a .options) (u .chi2) (u .lambda)) _ _ (c .before .before .before .before .trial .given .1) (c .if1 .taken),
       within-next l (u .set) (a .w .now) (u .w) _ (u .inv .2) (within-next l (a .set .now) (a .w .now) _ (u .w) refl (within-front l (a .w .now) _ (c .before .before .before .before .before .before .before .before .before .before .before .before .before .before .before .before .before .chi2-at-state .ensures .2)) (u .inv .6)) (t .ensures .1),
       t .ensures .2,
@@ -135,7 +135,7 @@ returns-3 c =
     let u = c .before .before .before .before .before .before .before .before .before .before .before .before .loop in
     let t = c .before .before .before .before .before .before .before .before .attempt in
     let a = c .before .before .before .before .before .before .before .before .before .before .before .before .before .before .before .before .before .before .before .before .before .before .before .before .before .before .args in
-    let l = (lent (a .names .now) (a .fixed .now) (a .set .now) (a .dh .now) (a .dd .now) (a .pier .now) (a .sheets .now) (a .sin-lat) (a .cos-lat) (a .fit-tol)) in (
+    let l = (inputs (a .names .now) (a .fixed .now) (a .set .now) (a .dh .now) (a .dd .now) (a .pier .now) (a .sheets .now) (a .sin-lat) (a .cos-lat) (a .fit-tol)) in (
       rw (u .inv .4) (rejected-left l (a .options) _ (u .set) (u .chi2) (u .lambda) (u .last-step-norm) (u .iterations) (c .before .before .before .before .before .before .before .before .before .before .before .loop-test .taken) (u .inv .5) _ _ (t .ensures .0 ∙ trial-same l (u .set) (a .options) (u .chi2) (u .lambda)) _ (c .before .before .trial2 .given .1) (c .if2 .taken)),
       within-next l (u .set) (a .w .now) (u .w) _ (u .inv .2) (within-next l (a .set .now) (a .w .now) _ (u .w) refl (within-front l (a .w .now) _ (c .before .before .before .before .before .before .before .before .before .before .before .before .before .before .before .chi2-at-state .ensures .2)) (u .inv .6)) (t .ensures .1),
       t .ensures .2,

@@ -1,6 +1,6 @@
 -- `lm_system::chi2_at_state` meets its contract. Assumes nothing.
 use borrow.Author.Needs.{needs}
-use Rattle.validate.specs.Call.{lent}
+use Rattle.solver.specs.Call.{inputs}
 use Rattle.lm_system.proofs.Laws.{chi2-is}
 use Rattle.lm_system.proofs.chi2_at_state.Statement.{statement}
 use Rattle.lm_system.proofs.chi2_at_state.Tie as tie
@@ -37,7 +37,7 @@ returns c =
     let left = c .before .before .before .before .before in
     let s = c .before .before .before .before .before .before .before .before .before .before .before .before .before .before .before in
     let a = s .args in
-    (chi2-is (lent (a .names .now) (a .fixed .now) (a .set .now) (a .dh .now) (a .dd .now) (a .pier .now) (a .sheets .now) (a .sin-lat) (a .cos-lat) (a .fit-tol)) (a .w .now) (s .pre) (left .residuals-under-state .last .1 .1 .1 .1 .1 .1 .1 .1 .1 .1 .0) _ (left .residuals-under-state .ensures .0) (c .sum-sq-sky .ensures), left .residuals-under-state .ensures .0, left .residuals-under-state .ensures .1)
+    (chi2-is (inputs (a .names .now) (a .fixed .now) (a .set .now) (a .dh .now) (a .dd .now) (a .pier .now) (a .sheets .now) (a .sin-lat) (a .cos-lat) (a .fit-tol)) (a .w .now) (s .pre) (left .residuals-under-state .last .1 .1 .1 .1 .1 .1 .1 .1 .1 .1 .0) _ (left .residuals-under-state .ensures .0) (c .sum-sq-sky .ensures), left .residuals-under-state .ensures .0, left .residuals-under-state .ensures .1)
 
 pub chi2-at-state-spec : {M : Type 1} → statement M
 chi2-at-state-spec =

@@ -2,7 +2,7 @@
 use mathlib.Core.Path.{_∙_}
 use native.Mathlib.Omega.{arith}
 use borrow.Author.Needs.{needs}
-use Rattle.validate.specs.Call.{lent}
+use Rattle.solver.specs.Call.{inputs}
 use Rattle.outcome.proofs.Laws.{columns-room, solve-ready}
 use Rattle.lm_system.proofs.Laws.{stepped}
 use Rattle.lm_system.proofs.lm_step.Statement.{statement}
@@ -39,7 +39,7 @@ free-columns-requires c κs =
       omega (arith, s .pre .0 .names-count, s .pre .0 .fixed-count),
       omega (arith, s .pre .0 .pier-count),
       omega (arith, s .pre .0 .pier-count),
-      columns-room (lent (a .names .now) (a .fixed .now) (a .set .now) (a .dh .now) (a .dd .now) (a .pier .now) (a .sheets .now) (a .sin-lat) (a .cos-lat) (a .fit-tol)) (a .w .now) (weighed .weighed-residuals .last .1 .1 .1 .0) (s .pre .0) (weighed .weighed-residuals .ensures .2 .long),
+      columns-room (inputs (a .names .now) (a .fixed .now) (a .set .now) (a .dh .now) (a .dd .now) (a .pier .now) (a .sheets .now) (a .sin-lat) (a .cos-lat) (a .fit-tol)) (a .w .now) (weighed .weighed-residuals .last .1 .1 .1 .0) (s .pre .0) (weighed .weighed-residuals .ensures .2 .long),
     )
 
 solve-damped-requires : tie.Need-solve-damped-requires
@@ -50,7 +50,7 @@ solve-damped-requires c κs =
     let s = c .before .before .before .before .before .before .before .before .before .before .before .before .before .before .before .before .before .before in
     let a = s .args in
     let long = laid .free-columns .ensures .1 .long ∙ weighed .weighed-residuals .ensures .2 .long in
-    let r = solve-ready (lent (a .names .now) (a .fixed .now) (a .set .now) (a .dh .now) (a .dd .now) (a .pier .now) (a .sheets .now) (a .sin-lat) (a .cos-lat) (a .fit-tol)) (a .w .now) (laid .free-columns .last .1 .1 .1 .1 .1 .1 .1 .0) (counted .free-count .result) (s .pre .0) long (counted .free-count .ensures) in
+    let r = solve-ready (inputs (a .names .now) (a .fixed .now) (a .set .now) (a .dh .now) (a .dd .now) (a .pier .now) (a .sheets .now) (a .sin-lat) (a .cos-lat) (a .fit-tol)) (a .w .now) (laid .free-columns .last .1 .1 .1 .1 .1 .1 .1 .0) (counted .free-count .result) (s .pre .0) long (counted .free-count .ensures) in
     (r .0, r .1, omega (arith, r .2), r .3, omega arith)
 
 same-length : tie.Need-same-length
@@ -63,7 +63,7 @@ returns c =
     let counted = c .before .before .before .before .before .before .before .before .before .before .before .before in
     let s = c .before .before .before .before .before .before .before .before .before .before .before .before .before .before .before .before .before .before .before .before .before in
     let a = s .args in
-    stepped (lent (a .names .now) (a .fixed .now) (a .set .now) (a .dh .now) (a .dd .now) (a .pier .now) (a .sheets .now) (a .sin-lat) (a .cos-lat) (a .fit-tol)) (a .w .now) (s .pre .0) (weighed .weighed-residuals .last .1 .1 .1 .0) (laid .free-columns .last .1 .1 .1 .1 .1 .1 .1 .0) _ (counted .free-count .result) (a .k) (a .lambda) _ (s .pre .1) (counted .free-count .ensures) (weighed .weighed-residuals .ensures) (laid .free-columns .ensures) (c .before .before .solve-damped .ensures)
+    stepped (inputs (a .names .now) (a .fixed .now) (a .set .now) (a .dh .now) (a .dd .now) (a .pier .now) (a .sheets .now) (a .sin-lat) (a .cos-lat) (a .fit-tol)) (a .w .now) (s .pre .0) (weighed .weighed-residuals .last .1 .1 .1 .0) (laid .free-columns .last .1 .1 .1 .1 .1 .1 .1 .0) _ (counted .free-count .result) (a .k) (a .lambda) _ (s .pre .1) (counted .free-count .ensures) (weighed .weighed-residuals .ensures) (laid .free-columns .ensures) (c .before .before .solve-damped .ensures)
 
 pub lm-step-spec : {M : Type 1} → statement M
 lm-step-spec =

@@ -1,6 +1,6 @@
 -- `lm_system::residuals_under_state` meets its contract. Assumes nothing.
 use borrow.Author.Needs.{needs}
-use Rattle.validate.specs.Call.{lent}
+use Rattle.solver.specs.Call.{inputs}
 use Rattle.lm_system.proofs.Laws.{under-state}
 use Rattle.lm_system.proofs.residuals_under_state.Statement.{statement}
 use Rattle.lm_system.proofs.residuals_under_state.Tie as tie
@@ -34,7 +34,7 @@ returns c =
     let r = c .before .before in
     let s = r .before .before .before .before .before .before .before .before .before .before in
     let a = s .args in
-    under-state (lent (a .names .now) (a .fixed .now) (a .set .now) (a .dh .now) (a .dd .now) (a .pier .now) (a .sheets .now) (a .sin-lat) (a .cos-lat) (a .fit-tol)) (a .w .now) (s .pre) _ (r .residuals-into .kept .1 .1 .1 .1 .1 .1 .1 .1 .0) (r .residuals-into .ensures)
+    under-state (inputs (a .names .now) (a .fixed .now) (a .set .now) (a .dh .now) (a .dd .now) (a .pier .now) (a .sheets .now) (a .sin-lat) (a .cos-lat) (a .fit-tol)) (a .w .now) (s .pre) _ (r .residuals-into .kept .1 .1 .1 .1 .1 .1 .1 .1 .0) (r .residuals-into .ensures)
 
 pub residuals-under-state-spec : {M : Type 1} → statement M
 residuals-under-state-spec =

@@ -1,5 +1,5 @@
 -- `pmf::list_fit` meets its contract. Assumes nothing.
-use Rattle.validate.specs.Call.{lent}
+use Rattle.solver.specs.Call.{inputs}
 use Rattle.pmf.proofs.Listing.{fit-text}
 use native.Mathlib.Omega.{arith}
 use borrow.Author.Needs.{needs}
@@ -67,7 +67,7 @@ returns c =
     let w = c .before .before .before .before .before .before .before .before .before .before .before .before .before .before in
     let x = w .before .before .before .before .before .before in
     let a = c .before .before .before .before .before .before .before .before .before .before .before .before .before .before .before .before .before .before .before .before .before .before .before .before .before .before .before .before .before .before .before .before .before .args in
-    rw (fit-text (a .mode) (lent (a .names .now) (a .fixed .now) (a .coefficients .now) (a .dh .now) (a .dd .now) (a .pier .now) (a .sheets .now) (a .sin-lat) (a .cos-lat) (a .fit-tol)) (a .options) _ _ (x .before .before .before .before .term-room .ensures) (x .before .before .before .term-room2 .ensures) (x .before .before .term-room3 .ensures) (x .before .diagnostics-room .ensures) (x .scratch-room .ensures) (w .fit .ensures) (c .before .before .before .before .before .before .before .answer .given .1)) (c .before .before .put-fit .ensures)
+    rw (fit-text (a .mode) (inputs (a .names .now) (a .fixed .now) (a .coefficients .now) (a .dh .now) (a .dd .now) (a .pier .now) (a .sheets .now) (a .sin-lat) (a .cos-lat) (a .fit-tol)) (a .options) _ _ (x .before .before .before .before .term-room .ensures) (x .before .before .before .term-room2 .ensures) (x .before .before .term-room3 .ensures) (x .before .diagnostics-room .ensures) (x .scratch-room .ensures) (w .fit .ensures) (c .before .before .before .before .before .before .before .answer .given .1)) (c .before .before .put-fit .ensures)
 
 same-length-2 : tie.Need-same-length-2
 same-length-2 c = search needs
@@ -77,7 +77,7 @@ returns-2 c =
     let w = c .before .before .before .before .before .before .before .before .before .before .before .before in
     let x = w .before .before .before .before .before .before in
     let a = c .before .before .before .before .before .before .before .before .before .before .before .before .before .before .before .before .before .before .before .before .before .before .before .before .before .before .before .before .before .before .before .args in
-    rw (fit-text (a .mode) (lent (a .names .now) (a .fixed .now) (a .coefficients .now) (a .dh .now) (a .dd .now) (a .pier .now) (a .sheets .now) (a .sin-lat) (a .cos-lat) (a .fit-tol)) (a .options) _ _ (x .before .before .before .before .term-room .ensures) (x .before .before .before .term-room2 .ensures) (x .before .before .term-room3 .ensures) (x .before .diagnostics-room .ensures) (x .scratch-room .ensures) (w .fit .ensures) (c .before .before .before .before .before .answer2 .given .1)) (c .before .before .put-refusal .ensures)
+    rw (fit-text (a .mode) (inputs (a .names .now) (a .fixed .now) (a .coefficients .now) (a .dh .now) (a .dd .now) (a .pier .now) (a .sheets .now) (a .sin-lat) (a .cos-lat) (a .fit-tol)) (a .options) _ _ (x .before .before .before .before .term-room .ensures) (x .before .before .before .term-room2 .ensures) (x .before .before .term-room3 .ensures) (x .before .diagnostics-room .ensures) (x .scratch-room .ensures) (w .fit .ensures) (c .before .before .before .before .before .answer2 .given .1)) (c .before .before .put-refusal .ensures)
 
 pub list-fit-spec : {M : Type 1} → statement M
 list-fit-spec =

@@ -1,5 +1,5 @@
 -- `pmf::list_input` meets its contract. Assumes nothing.
-use Rattle.validate.specs.Call.{lent}
+use Rattle.solver.specs.Call.{inputs}
 use Rattle.pmf.proofs.Listing.{asked-no, asked-pass}
 use borrow.Author.Needs.{needs}
 use Rattle.pmf.proofs.list_input.Statement.{statement}
@@ -26,7 +26,7 @@ same-length c = search needs
 returns : tie.Need-returns
 returns c =
     let a = c .before .before .before .before .before .before .before .before .before .before .before .before .before .before .before .before .args in
-    rw (asked-no (a .mode) (lent (a .names .now) (a .fixed .now) (a .coefficients .now) (a .dh .now) (a .dd .now) (a .pier .now) (a .sheets .now) (a .sin-lat) (a .cos-lat) (a .fit-tol)) (a .options) _ (c .before .before .before .before .before .before .before .questions .ensures) _ (c .before .before .before .before .before .asked .given .1)) (c .before .before .put-refusal .ensures)
+    rw (asked-no (a .mode) (inputs (a .names .now) (a .fixed .now) (a .coefficients .now) (a .dh .now) (a .dd .now) (a .pier .now) (a .sheets .now) (a .sin-lat) (a .cos-lat) (a .fit-tol)) (a .options) _ (c .before .before .before .before .before .before .before .questions .ensures) _ (c .before .before .before .before .before .asked .given .1)) (c .before .before .put-refusal .ensures)
 
 same-length-2 : tie.Need-same-length-2
 same-length-2 c = search needs
@@ -34,7 +34,7 @@ same-length-2 c = search needs
 returns-2 : tie.Need-returns-2
 returns-2 c =
     let a = c .before .before .before .before .before .before .before .before .before .before .before .before .before .before .before .before .args in
-    rw (asked-pass (a .mode) (lent (a .names .now) (a .fixed .now) (a .coefficients .now) (a .dh .now) (a .dd .now) (a .pier .now) (a .sheets .now) (a .sin-lat) (a .cos-lat) (a .fit-tol)) (a .options) _ (c .before .before .before .before .before .before .before .questions .ensures) _ (c .before .before .before .before .before .asked2 .given .1)) (c .before .before .list-fit .ensures)
+    rw (asked-pass (a .mode) (inputs (a .names .now) (a .fixed .now) (a .coefficients .now) (a .dh .now) (a .dd .now) (a .pier .now) (a .sheets .now) (a .sin-lat) (a .cos-lat) (a .fit-tol)) (a .options) _ (c .before .before .before .before .before .before .before .questions .ensures) _ (c .before .before .before .before .before .asked2 .given .1)) (c .before .before .list-fit .ensures)
 
 pub list-input-spec : {M : Type 1} → statement M
 list-input-spec =

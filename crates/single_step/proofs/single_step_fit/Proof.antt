@@ -1,5 +1,5 @@
 -- `single_step::single_step_fit` meets its contract. Assumes nothing.
-use Rattle.validate.specs.Call.{lent}
+use Rattle.solver.specs.Call.{inputs}
 use Rattle.single_step.proofs.Laws.{made-step}
 use borrow.Author.Needs.{needs}
 use Rattle.single_step.proofs.single_step_fit.Statement.{statement}
@@ -28,7 +28,7 @@ returns c =
     let solved = change .before .before .before .before .before in
     let s = solved .before .before .before .before .before .before .before .before .before .before in
     let a = s .args in
-    made-step (lent (a .names .now) (a .fixed .now) (a .coefficients .now) (a .dh .now) (a .dd .now) (a .pier .now) (a .sheets .now) (a .sin-lat) (a .cos-lat) (a .fit-tol)) (a .w .now) (solved .solve .last .1 .1 .1 .1 .1 .1 .1 .1 .1 .1 .0) _ (solved .solve .result) (change .changes .result) _ (s .pre) (solved .solve .ensures) (change .changes .ensures) (new .changed .ensures) (left .free-residuals .ensures)
+    made-step (inputs (a .names .now) (a .fixed .now) (a .coefficients .now) (a .dh .now) (a .dd .now) (a .pier .now) (a .sheets .now) (a .sin-lat) (a .cos-lat) (a .fit-tol)) (a .w .now) (solved .solve .last .1 .1 .1 .1 .1 .1 .1 .1 .1 .1 .0) _ (solved .solve .result) (change .changes .result) _ (s .pre) (solved .solve .ensures) (change .changes .ensures) (new .changed .ensures) (left .free-residuals .ensures)
 
 pub single-step-fit-spec : {M : Type 1} → statement M
 single-step-fit-spec =

@@ -4,7 +4,7 @@ use Prim.Native.Nat.{_*_}
 use native.Mathlib.Omega.{arith}
 use lib.ListN.{length}
 use Rattle.sequence.proofs.Only.{back-only}
-use Rattle.validate.specs.Call.{lent}
+use Rattle.solver.specs.Call.{inputs}
 use Rattle.outcome.proofs.Laws.{columns-room, solve-ready}
 use Rattle.single_step.proofs.Laws.{stepped}
 use borrow.Author.Needs.{needs}
@@ -64,7 +64,7 @@ free-columns-requires c κs =
       omega (arith, s .pre .names-count, s .pre .fixed-count),
       omega (arith, s .pre .pier-count),
       omega (arith, s .pre .pier-count),
-      columns-room (lent (a .names .now) (a .fixed .now) (a .coefficients .now) (a .dh .now) (a .dd .now) (a .pier .now) (a .sheets .now) (a .sin-lat) (a .cos-lat) (a .fit-tol)) (a .w .now) (subtract .subtract-all-contributions .last .1 .1 .1 .1 .1 .1 .0) (s .pre) long,
+      columns-room (inputs (a .names .now) (a .fixed .now) (a .coefficients .now) (a .dh .now) (a .dd .now) (a .pier .now) (a .sheets .now) (a .sin-lat) (a .cos-lat) (a .fit-tol)) (a .w .now) (subtract .subtract-all-contributions .last .1 .1 .1 .1 .1 .1 .0) (s .pre) long,
     )
 
 solve-and-covariance-requires : tie.Need-solve-and-covariance-requires
@@ -78,7 +78,7 @@ solve-and-covariance-requires c κs =
     let n = length (a .dh .now) in
     let first = back-only (a .w .now) (built .build-sky-residuals .last .1 .1 .1 .0) (4 * n) (2 * n) (omega (arith, s .pre .room)) (built .build-sky-residuals .kept .1 .1 .1 .0) in
     let long = laid .free-columns .ensures .1 .long ∙ subtract .subtract-all-contributions .ensures .1 .long ∙ first .long in
-    let r = solve-ready (lent (a .names .now) (a .fixed .now) (a .coefficients .now) (a .dh .now) (a .dd .now) (a .pier .now) (a .sheets .now) (a .sin-lat) (a .cos-lat) (a .fit-tol)) (a .w .now) (laid .free-columns .last .1 .1 .1 .1 .1 .1 .1 .0) (counted .free-count .result) (s .pre) long (counted .free-count .ensures) in
+    let r = solve-ready (inputs (a .names .now) (a .fixed .now) (a .coefficients .now) (a .dh .now) (a .dd .now) (a .pier .now) (a .sheets .now) (a .sin-lat) (a .cos-lat) (a .fit-tol)) (a .w .now) (laid .free-columns .last .1 .1 .1 .1 .1 .1 .1 .0) (counted .free-count .result) (s .pre) long (counted .free-count .ensures) in
     (r .0, r .1, omega (arith, r .2), r .3, omega arith, omega arith)
 
 same-length : tie.Need-same-length
@@ -93,7 +93,7 @@ returns c =
     let counted = built .before .before in
     let s = counted .before .before .before .before .before .before .before .before .before in
     let a = s .args in
-    stepped (lent (a .names .now) (a .fixed .now) (a .coefficients .now) (a .dh .now) (a .dd .now) (a .pier .now) (a .sheets .now) (a .sin-lat) (a .cos-lat) (a .fit-tol)) (a .w .now) (built .build-sky-residuals .last .1 .1 .1 .0) _ _ _ (counted .free-count .result) _ (s .pre) (counted .free-count .ensures) (built .build-sky-residuals .kept .1 .1 .1 .0) (built .build-sky-residuals .ensures) (subtract .subtract-all-contributions .ensures) (laid .free-columns .ensures) (k .solve-and-covariance .ensures)
+    stepped (inputs (a .names .now) (a .fixed .now) (a .coefficients .now) (a .dh .now) (a .dd .now) (a .pier .now) (a .sheets .now) (a .sin-lat) (a .cos-lat) (a .fit-tol)) (a .w .now) (built .build-sky-residuals .last .1 .1 .1 .0) _ _ _ (counted .free-count .result) _ (s .pre) (counted .free-count .ensures) (built .build-sky-residuals .kept .1 .1 .1 .0) (built .build-sky-residuals .ensures) (subtract .subtract-all-contributions .ensures) (laid .free-columns .ensures) (k .solve-and-covariance .ensures)
 
 pub solve-spec : {M : Type 1} → statement M
 solve-spec =

@@ -5,7 +5,7 @@ use lib.ListN.{length}
 use lib.Ieee.{Float}
 
 -- the input: names in slots of 16 bytes, flags and coefficients, a term each; raw differences, pier codes and sheets, a star each
-pub record Lent : Type 0 where
+pub record FitInputs : Type 0 where
   pub names : List ℕ
   pub fixed : List ℕ
   pub coefficients : List Float
@@ -33,8 +33,8 @@ pub record Sizes : Type 0 where
   pub diagnostics : ℕ
   pub scratch : ℕ
 
-abbrev pub lent : List ℕ → List ℕ → List Float → List Float → List Float → List ℕ → List Float → Float → Float → Float → Lent
-lent names fixed coefficients dh dd pier sheets sinLat cosLat fitTol =
+abbrev pub inputs : List ℕ → List ℕ → List Float → List Float → List Float → List ℕ → List Float → Float → Float → Float → FitInputs
+inputs names fixed coefficients dh dd pier sheets sinLat cosLat fitTol =
     record { names = names; fixed = fixed; coefficients = coefficients; dh = dh; dd = dd; pier = pier; sheets = sheets; sinLat = sinLat; cosLat = cosLat; fitTol = fitTol }
 
 abbrev pub buffers : List Float → List Float → List Float → List Float → List Float → Buffers
