@@ -4,17 +4,17 @@
 // so that one turn turns A and V.
 
 ghost use mathlib.Core.Path.{_≡_};
-ghost use mathlib.Core.Bool.{Bool, cond, true};
-ghost use Prim.Native.Nat.{_+_, _-_, _*_, _≤_, _<_};
+ghost use mathlib.Core.Bool.{Bool, true};
+ghost use Prim.Native.Nat.{_+_, _*_, _≤_, _<_};
 ghost use lib.ListN.{length};
-ghost use Rattle.sequence.specs.Sequence.{part, dot, each};
+ghost use Rattle.sequence.specs.Sequence.{part, dot};
 ghost use Rattle.jacobi.specs.Jacobi.{products, turns as turnsOf, zetaOf, tanOf, cosOf, turn as turnOf, pair as pairOf, factorised};
 
-// The squared norms of two columns and their dot product.
+// The squared norms of two columns and their dot product. With gamma first the compiler adds the two norms as one vector.
 struct Products {
+    gamma: f64,
     alpha: f64,
     beta: f64,
-    gamma: f64,
 }
 
 // How many sweeps were made, and whether the last had no turn.
@@ -24,8 +24,7 @@ pub struct Sweeps {
     pub settled: bool,
 }
 
-// The three sums of the n numbers from x on and the n from y on, in one pass, each in its own order. With
-// gamma first the compiler adds the two norms as one vector.
+// The three sums of the n numbers from x on and the n from y on, in one pass, each in its own order.
 fn sums(w: &[f64], x: usize, y: usize, n: usize) -> Products
     requires { ⌜ (x + n ≤ length (now w)) × (y + n ≤ length (now w)) ⌝ }
     ensures { λ r. ⌜ r ≡ products n x y (now (w .entry)) ⌝ }
@@ -141,105 +140,48 @@ fn turn_on(w: &mut [f64], x: usize, y: usize, z: usize, n: usize, c: f64, s: f64
     }
 }
 
-// Beta and gamma of a column with each of two others.
-struct Ahead {
-    beta1: f64,
-    beta2: f64,
-    gamma1: f64,
-    gamma2: f64,
-}
-
-// The sums of the n numbers from x on with the n from y on and the n from z on, without alpha, in one pass.
-fn look_ahead(w: &[f64], x: usize, y: usize, z: usize, n: usize) -> Ahead
-    requires { ⌜ (x + n ≤ length (now w)) × (y + n ≤ length (now w)) × (z + n ≤ length (now w)) ⌝ }
-    ensures { λ r. ⌜ (record { alpha = dot (part (now (w .entry)) x n) (part (now (w .entry)) x n); beta = r .beta1; gamma = r .gamma1 } ≡ products n x y (now (w .entry)))
-        × (record { alpha = dot (part (now (w .entry)) x n) (part (now (w .entry)) x n); beta = r .beta2; gamma = r .gamma2 } ≡ products n x z (now (w .entry))) ⌝ }
+// The sums of columns p and q, or zeros where q is past the last column.
+fn pair_sums(w: &[f64], h: usize, rows: usize, m: usize, p: usize, q: usize) -> Products
+    requires { ⌜ (p < q) × (rows ≤ h) × (m * h ≤ length (now w)) ⌝ }
+    ensures { λ r. ⌜ (q < m → r ≡ products rows (p * h) (q * h) (now (w .entry))) ⌝ }
 {
-    let mut beta1 = 0.0;
-    let mut beta2 = 0.0;
-    let mut gamma1 = 0.0;
-    let mut gamma2 = 0.0;
-    for k in 0..n {
-        let p = w[x + k];
-        let q = w[y + k];
-        let r = w[z + k];
-        beta1 = beta1 + q * q;
-        beta2 = beta2 + r * r;
-        gamma1 = gamma1 + p * q;
-        gamma2 = gamma2 + p * r;
+    if q < m {
+        return sums(w, p * h, q * h, rows);
     }
-    Ahead {
-        beta1,
-        beta2,
-        gamma1,
-        gamma2,
+    Products {
+        gamma: 0.0,
+        alpha: 0.0,
+        beta: 0.0,
     }
 }
 
-// Where a run of pairs of p ends: the squared norm of column p, if a pair is left, the next q, and whether one turned.
-struct Run {
-    alpha: f64,
+// Columns p and q, which turn and whose sums are `a`, turned, V's rows after A's. The pass over A's gives the sums of the
+// next pair; where q is the last column, `a` comes back.
+fn turn_pair(
+    w: &mut [f64],
+    h: usize,
+    rows: usize,
+    m: usize,
+    p: usize,
     q: usize,
-    turned: bool,
-}
-
-// The pairs of p with each q from `from` on as long as they turn, and the first that does not.
-fn turn_run(w: &mut [f64], h: usize, rows: usize, m: usize, p: usize, from: usize) -> Run
-    requires { ⌜ (p < from) × (from < m) × (rows + m ≤ h) × (m * h ≤ length (now w)) ⌝ }
-    ensures { λ r. ⌜ (from < r .q) × (r .q ≤ m) × (r .q < m → r .alpha ≡ dot (part (now (w .exit)) (p * h) rows) (part (now (w .exit)) (p * h) rows))
-        × ((b : Bool) → record { w = now (w .exit); turned = cond (r .turned) true b } ≡ each (r .q - from) from (pairOf h rows m p) (record { w = now (w .entry); turned = b })) ⌝ }
+    a: Products,
+) -> Products
+    requires { ⌜ (p < q) × (q < m) × (rows + m ≤ h) × (m * h ≤ length (now w)) × (a ≡ products rows (p * h) (q * h) (now w))
+        × (turnsOf (a .alpha) (a .beta) (a .gamma) ≡ true) ⌝ }
+    ensures { λ r. ⌜ ((b : Bool) → record { w = now (w .exit); turned = true } ≡ pairOf h rows m p q (record { w = now (w .entry); turned = b }))
+        × (q + 1 < m → r ≡ products rows (p * h) ((q + 1) * h) (now (w .exit))) ⌝ }
 {
+    let t = tangent(a.alpha, a.beta, a.gamma);
+    let c = cosine(t);
     let x = p * h;
-    let a = sums(w, x, from * h, rows);
-    let mut alpha = a.alpha;
-    let mut beta = a.beta;
-    let mut gamma = a.gamma;
-    let mut q = from;
-    let mut turned = false;
-    while turns(alpha, beta, gamma) {
-        let t = tangent(alpha, beta, gamma);
-        let c = cosine(t);
-        let y = q * h;
-        if q + 1 == m {
-            turn(w, x, y, rows + m, c, c * t);
-            return Run {
-                alpha,
-                q: m,
-                turned: true,
-            };
-        }
-        let next = turn_on(w, x, y, y + h, rows, c, c * t);
-        turn(w, x + rows, y + rows, m, c, c * t);
-        alpha = next.alpha;
-        beta = next.beta;
-        gamma = next.gamma;
-        q += 1;
-        turned = true;
+    let y = q * h;
+    if q + 1 == m {
+        turn(w, x, y, rows + m, c, c * t);
+        return a;
     }
-    Run {
-        alpha,
-        q: q + 1,
-        turned,
-    }
-}
-
-// The next q, from `from` on, of which the pair with p or the one after it turns, or where too few are left to see
-// two at a time.
-fn still_run(w: &[f64], h: usize, rows: usize, m: usize, p: usize, from: usize, alpha: f64) -> usize
-    requires { ⌜ (p < from) × (from ≤ m) × (rows + m ≤ h) × (m * h ≤ length (now w)) × (from < m → alpha ≡ dot (part (now w) (p * h) rows) (part (now w) (p * h) rows)) ⌝ }
-    ensures { λ r. ⌜ (from ≤ r) × (r ≤ m) × ((b : Bool) → record { w = now (w .entry); turned = b } ≡ each (r - from) from (pairOf h rows m p) (record { w = now (w .entry); turned = b })) ⌝ }
-{
-    let x = p * h;
-    let mut q = from;
-    while q + 1 < m {
-        let y = q * h;
-        let b = look_ahead(w, x, y, y + h, rows);
-        if turns(alpha, b.beta1, b.gamma1) | turns(alpha, b.beta2, b.gamma2) {
-            return q;
-        }
-        q += 2;
-    }
-    q
+    let next = turn_on(w, x, y, y + h, rows, c, c * t);
+    turn(w, x + rows, y + rows, m, c, c * t);
+    next
 }
 
 // Sweeps until one in which no pair turns, at most 30.
@@ -252,13 +194,14 @@ pub fn factorise(w: &mut [f64], h: usize, rows: usize, m: usize) -> Sweeps
     'sweeps: while made < 30 {
         let mut turned = false;
         for p in 0..m {
-            let mut q = p + 1;
-            while q < m {
-                let run = turn_run(w, h, rows, m, p, q);
-                if run.turned {
+            let mut a = pair_sums(w, h, rows, m, p, p + 1);
+            for q in p + 1..m {
+                if turns(a.alpha, a.beta, a.gamma) {
+                    a = turn_pair(w, h, rows, m, p, q, a);
                     turned = true;
+                } else {
+                    a = pair_sums(w, h, rows, m, p, q + 1);
                 }
-                q = still_run(w, h, rows, m, p, run.q, run.alpha);
             }
         }
         made += 1;

@@ -17,7 +17,8 @@ abbrev Inv-loop : tie.InvT-loop
 Inv-loop w₀ x y z n c s gamma₀ alpha₀ beta₀ half₀ half-end w gamma alpha beta half =
     let T = turn c s n x y w₀ in
     (half-end ≡ n / 2) × (half ≤ half-end) × (w ≡ turn c s (2 * half) x y w₀) × (length w ≡ length w₀)
-    × (alpha ≡ dot (part T x (2 * half)) (part T x (2 * half))) × (beta ≡ dot (part T z (2 * half)) (part T z (2 * half))) × (gamma ≡ dot (part T x (2 * half)) (part T z (2 * half)))
+    × (alpha ≡ dot (part T x (2 * half)) (part T x (2 * half))) × (beta ≡ dot (part T z (2 * half)) (part T z (2 * half)))
+    × (gamma ≡ dot (part T x (2 * half)) (part T z (2 * half)))
 
 abbrev μ-loop : tie.MeasureT-loop
 μ-loop w₀ x y z n c s gamma₀ alpha₀ beta₀ half₀ half-end w gamma alpha beta half = half-end - half

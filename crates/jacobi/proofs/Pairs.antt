@@ -1,8 +1,8 @@
--- Pairs that turn, V's rows after A's, and pairs that stay as they are, one after another. Assumes nothing.
+-- A pair that turns, V's rows after A's. Assumes nothing.
 use mathlib.Core.Path.{_≡_, refl, sym, ap, _∙_}
-use mathlib.Core.Bool.{Bool, true, false}
+use mathlib.Core.Bool.{Bool, true}
 use mathlib.Core.List.{List, zipWith}
-use Prim.Native.Nat.{ℕ, zero, suc, _+_, _-_, _*_, _≤_}
+use Prim.Native.Nat.{ℕ, zero, suc, _+_, _*_, _≤_, _<_}
 use native.Mathlib.Nat.{add-zero}
 use native.Mathlib.Numerals.{add-one}
 use native.Mathlib.Omega.{arith}
@@ -10,28 +10,15 @@ use lib.ListN.{length}
 use lib.Seq.{sets}
 use lib.Ieee.{Float}
 use Rattle.float.specs.Float.{_⊗_}
-use Rattle.sequence.specs.Sequence.{part, each, dot}
-use Rattle.sequence.proofs.Fills.{each-step}
-use Rattle.sequence.proofs.Parts.{length-zip-part, part-sets-above, part-sets-below}
+use Rattle.sequence.specs.Sequence.{part}
+use Rattle.sequence.proofs.Parts.{apart, length-zip-part, part-sets-above, part-sets-below}
 use Rattle.jacobi.specs.declared.Products.{Products}
 use Rattle.jacobi.specs.Jacobi.{products, turns, turn, newP, newQ, pair, zetaOf, tanOf, cosOf}
-use Rattle.jacobi.proofs.Laws.{turn-zero, turn-length, turn-step, pair-still, pair-turned}
+use Rattle.jacobi.proofs.Laws.{turn-zero, turn-length, turn-step, pair-turned}
 
--- ---- one pass after another
-
--- from k on, after those from i to k
-module _ {S : Type 0} (f : ℕ → S → S) (i : ℕ) (s : S) where
-  each-on : (d k : ℕ) (t : S) → i ≤ k → t ≡ each (k - i) i f s → each d k f t ≡ each (k + d - i) i f s
-  unfolding each
-  each-on zero k t l e = e ∙ ap (λ (n : ℕ). each (n - i) i f s) (sym (add-zero k))
-  each-on (suc d) k t l e =
-      let n : k + 1 + d ≡ k + suc d = omega arith in
-      ap (λ (j : ℕ). each d j f (f k t)) (sym (add-one k)) ∙ each-on d (k + 1) (f k t) (omega arith) (each-step i k f s t l e) ∙ ap (λ (j : ℕ). each (j - i) i f s) n
-
-  pub each-join : (k n : ℕ) (t u : S) → i ≤ k → k ≤ n → t ≡ each (k - i) i f s → u ≡ each (n - k) k f t → u ≡ each (n - i) i f s
-  each-join k n t u l l₂ e e₂ =
-      let c : k + (n - k) ≡ n = omega arith in
-      e₂ ∙ rw c at (each-on (n - k) k t l e)
+-- column p ends before column q begins, and that one before the m columns end
+pub inside : (p q m h : ℕ) → p < q → q < m → (p * h + h ≤ q * h) × (q * h + h ≤ m * h)
+inside p q m h l l₂ = (apart p q h l, apart q m h l₂)
 
 -- ---- V's rows after A's
 
@@ -65,16 +52,18 @@ module _ (c s : Float) (k x y : ℕ) (l : List Float) where
         let ez = part-sets-above (sets l (x + k) F) z k (y + k) G (omega arith) ∙ part-sets-above l z k (x + k) F (omega arith) in
         rw (ex, ez)
 
--- ---- pairs
+-- ---- a pair that turns
 
-module _ (h rows m p q : ℕ) (w : List Float) (α β γ : Float) (known : record { alpha = α; beta = β; gamma = γ } ≡ products rows (p * h) (q * h) w) (t c : Float) (w₁ w₂ : List Float)
-    (ew₁ : w₁ ≡ turn c (c ⊗ t) rows (p * h) (q * h) w) (ew₂ : w₂ ≡ turn c (c ⊗ t) m (p * h + rows) (q * h + rows) w₁) (apart : p * h + (rows + m) ≤ q * h) (fits : q * h + h + rows ≤ length w)
-    (within : rows + m ≤ h) where
+module _ (h rows m p q : ℕ) (w : List Float) (t c : Float) (w₁ w₂ : List Float) (ew₁ : w₁ ≡ turn c (c ⊗ t) rows (p * h) (q * h) w)
+    (ew₂ : w₂ ≡ turn c (c ⊗ t) m (p * h + rows) (q * h + rows) w₁) (below : p * h + h ≤ q * h) (fits : q * h + h ≤ length w) (within : rows + m ≤ h) where
   -- A's rows turn and then V's
-  pub turned-pair : turns α β γ ≡ true → t ≡ tanOf (zetaOf α β γ) → c ≡ cosOf t → (b : Bool) → record { w = w₂; turned = true } ≡ pair h rows m p q (record { w = w; turned = b })
-  turned-pair e et ec b =
-      let both : w₂ ≡ turn c (c ⊗ t) (rows + m) (p * h) (q * h) w = rw (ew₂, ew₁) (turn-rest c (c ⊗ t) rows (p * h) (q * h) w m (omega arith) (omega arith)) in
-      pair-turned h rows m p q w (record { alpha = α; beta = β; gamma = γ }) known e t c et ec w₂ both b
+  pub turned-pair : (a : Products) → a ≡ products rows (p * h) (q * h) w → turns (a .alpha) (a .beta) (a .gamma) ≡ true
+      → t ≡ tanOf (zetaOf (a .alpha) (a .beta) (a .gamma)) → c ≡ cosOf t → (b : Bool)
+      → record { w = w₂; turned = true } ≡ pair h rows m p q (record { w = w; turned = b })
+  turned-pair a known e et ec b =
+      let both : w₂ ≡ turn c (c ⊗ t) (rows + m) (p * h) (q * h) w =
+      rw (ew₂, ew₁) (turn-rest c (c ⊗ t) rows (p * h) (q * h) w m (omega arith) (omega arith)) in
+      pair-turned h rows m p q w a known e t c et ec w₂ both b
 
   -- the sums of the next pair are those of before V's rows
   pub turned-sums : (a : Products) → a ≡ products rows (p * h) (q * h + h) w₁ → a ≡ products rows (p * h) ((q + 1) * h) w₂
@@ -82,11 +71,3 @@ module _ (h rows m p q : ℕ) (w : List Float) (α β γ : Float) (known : recor
       let e : (q + 1) * h ≡ q * h + h = omega arith in
       let long : length w₁ ≡ length w = ap length ew₁ ∙ turn-length c (c ⊗ t) rows (p * h) (q * h) w in
       ea ∙ sym (rw (e, ew₂) (rest-keeps c (c ⊗ t) rows (p * h) (q * h) w₁ m (omega arith) (omega arith) (q * h + h) (omega arith)))
-
--- a pair that stays as it is, where the sum of column p is known by itself
-pub still-pair : (h rows m p q : ℕ) (w : List Float) (α β γ : Float) → α ≡ dot (part w (p * h) rows) (part w (p * h) rows)
-    → record { alpha = dot (part w (p * h) rows) (part w (p * h) rows); beta = β; gamma = γ } ≡ products rows (p * h) (q * h) w → turns α β γ ≡ false → (b : Bool)
-    → record { w = w; turned = b } ≡ pair h rows m p q (record { w = w; turned = b })
-still-pair h rows m p q w α β γ eα known e b =
-    let all : record { alpha = α; beta = β; gamma = γ } ≡ products rows (p * h) (q * h) w = rw eα known in
-    pair-still h rows m p q w (record { alpha = α; beta = β; gamma = γ }) all e b
