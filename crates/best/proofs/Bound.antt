@@ -8,7 +8,7 @@ use lib.Ieee.{Float}
 use Rattle.float.specs.Float.{#0, _⊕_, _⊗_}
 use Rattle.float.proofs.Zero.{zero-is}
 use Rattle.sequence.specs.Sequence.{sumTo}
-use Rattle.best.specs.ChiSquare.{chi, unitsOf, exact, Fine, AllFine}
+use Rattle.best.specs.ChiSquare.{chi, unitsOf, exact, TameValue, AllTameValues}
 use Rattle.best.proofs.Close.{Close, Upto, upto-more, upto-at-most, close-trans, close-more, close-add, close-eq}
 use Rattle.best.proofs.Rounding.{P, N, M, N≤M}
 use Rattle.best.proofs.Operations.{Within, sum-within}
@@ -41,27 +41,27 @@ within-more x j k s l (t, v, c) = (t, v, close-more N M j k (t * P) s N≤M l c)
 abbrev pairOf : Float → Float → ℕ
 pairOf x y = unitsOf x * unitsOf x + unitsOf y * unitsOf y
 
-pair-le : (x y : Float) → Fine x → Fine y → pairOf x y ≤ 2 ^ 2949
+pair-le : (x y : Float) → TameValue x → TameValue y → pairOf x y ≤ 2 ^ 2949
 pair-le x y f g = le-trans (add-le-add (square-le x f) (square-le y g)) (lit≤ {m = 2 ^ 2948 + 2 ^ 2948} {n = 2 ^ 2949} tt)
 
-pair-within : (x y : Float) → Fine x → Fine y → Within (x ⊗ x ⊕ y ⊗ y) 2 (pairOf x y)
+pair-within : (x y : Float) → TameValue x → TameValue y → Within (x ⊗ x ⊕ y ⊗ y) 2 (pairOf x y)
 pair-within x y f g =
     added (x ⊗ x) (y ⊗ y) 1 (unitsOf x * unitsOf x) (unitsOf y * unitsOf y) (2 ^ 2949) (lit≤ tt) (pair-le x y f g) (lit< tt)
     (square-of x f) (square-of y g)
 
 -- ---- n stars
 
-pub fewer : (h d : ℕ → Float) (n : ℕ) → AllFine h d (suc n) → AllFine h d n
+pub fewer : (h d : ℕ → Float) (n : ℕ) → AllTameValues h d (suc n) → AllTameValues h d n
 fewer h d n f i l = f i (le-step l)
 
-exact-le : (h d : ℕ → Float) (n : ℕ) → AllFine h d n → exact h d n ≤ n * 2 ^ 2949
+exact-le : (h d : ℕ → Float) (n : ℕ) → AllTameValues h d n → exact h d n ≤ n * 2 ^ 2949
 unfolding exact
 exact-le h d zero f = zero-le
 exact-le h d (suc n) f =
     let (x, y) = f n (le-refl (suc n)) in
     le-trans (add-le-add (exact-le h d n (fewer h d n f)) (pair-le (h n) (d n) x y)) (le-of-eq (sym (suc-mul n (2 ^ 2949))))
 
-exact-top : (h d : ℕ → Float) (n : ℕ) → n ≤ 1024 → AllFine h d n → exact h d n ≤ 2 ^ 2959
+exact-top : (h d : ℕ → Float) (n : ℕ) → n ≤ 1024 → AllTameValues h d n → exact h d n ≤ 2 ^ 2959
 exact-top h d n l f = le-trans (exact-le h d n f) (mul-le-mul-right (2 ^ 2949) l)
 
 two-more : (n : ℕ) → 2 ≤ n + 2
@@ -76,7 +76,7 @@ enough n h = omega arith
 none : (k : ℕ) → Within #0 k 0
 none k = subst (λ (z : Float). Within z k 0) (sym zero-is) (0, (refl, refl), close-eq N M k (0 * P) 0 N≤M refl)
 
-pub chi-within : (h d : ℕ → Float) (n : ℕ) → n ≤ 1024 → AllFine h d n → Within (chi h d n) (n + 2) (exact h d n)
+pub chi-within : (h d : ℕ → Float) (n : ℕ) → n ≤ 1024 → AllTameValues h d n → Within (chi h d n) (n + 2) (exact h d n)
 unfolding chi sumTo exact
 chi-within h d zero l f = none 2
 chi-within h d (suc n) l f =

@@ -8,7 +8,7 @@ use lib.Dec.{T, nltb→le, lit≤, lit<}
 use lib.Ieee.{Float, nan, inf, fin, up, down, lt}
 use lib.Ieee.Fits.{down-pos}
 use lib.Ieee.Order.{transfer}
-use Rattle.best.specs.ChiSquare.{chi, exact, AllFine, parts}
+use Rattle.best.specs.ChiSquare.{chi, exact, AllTameValues, parts}
 use Rattle.best.proofs.Close.{Upto, upto-trans, upto-more, upto-le, upto-at-most}
 use Rattle.best.proofs.Rounding.{P, N, M, P-pos, N≤M, Is}
 use Rattle.best.proofs.Bound.{enough, chi-within}
@@ -37,7 +37,7 @@ not-lt→units (fin false m e) (fin false n d) a b h k t =
 slack : (x y : ℕ) → Upto N M 2052 x y → parts * x ≤ (parts + 1) * y
 slack x y h = upto-at-most N M 2052 x y (parts + 1) parts (lit< tt) (lit≤ tt) h
 
-pub exact-of-not-lt : (h d h' d' : ℕ → Float) (n : ℕ) → n ≤ 1024 → AllFine h d n → AllFine h' d' n
+pub exact-of-not-lt : (h d h' d' : ℕ → Float) (n : ℕ) → n ≤ 1024 → AllTameValues h d n → AllTameValues h' d' n
     → T (not (lt (chi h' d' n) (chi h d n))) → parts * exact h d n ≤ (parts + 1) * exact h' d' n
 exact-of-not-lt h d h' d' n l f g t =
     let (a, v, p) = chi-within h d n l f in

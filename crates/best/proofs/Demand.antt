@@ -6,7 +6,7 @@ use mathlib.Core.Bool.{not}
 use mathlib.Core.List.{List·Memᴰ}
 use lib.Dec.{T}
 use lib.Ieee.{Float, binary64, lt, fits}
-use Rattle.best.specs.ChiSquare.{chi, exactSum, AllTame, AllFine, AtMost}
+use Rattle.best.specs.ChiSquare.{chi, exactSum, AllTame, AllTameValues, AtMost}
 use Rattle.best.specs.Trials.{Trials, answer, tried, Keeps}
 use Rattle.best.proofs.Fraction.{fraction-of-not-lt}
 use Rattle.best.proofs.Best.{none-below, answer-best}
@@ -14,7 +14,7 @@ use Rattle.best.proofs.Best.{none-below, answer-best}
 -- h a and d a are the residuals under the set a, each made by an operation, and the score is the computed chi-square
 module _ {L A : Type 0} (p : Trials L A) (Ok : L → Type 0) (rule : Keeps p Ok) (h d : A → ℕ → Float) (n : ℕ) (few : n ≤ 1024)
     (is : (a : A) → p .score a ≡ chi (h a) (d a) n) (made : (a : A) (i : ℕ) → T (fits binary64 (h a i)) × T (fits binary64 (d a i))) where
-  fine : (a : A) → AllTame (h a) (d a) n → AllFine (h a) (d a) n
+  fine : (a : A) → AllTame (h a) (d a) n → AllTameValues (h a) (d a) n
   fine a t i l = ((made a i .0, t i l .0), (made a i .1, t i l .1))
 
   computed : (k : ℕ) (s : L) → Ok s → (x : A) → List·Memᴰ x (tried p k s)

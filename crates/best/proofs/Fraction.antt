@@ -8,7 +8,7 @@ use lib.Pow.{pow-pos}
 use lib.Ieee.{Float, nan, inf, fin, lt}
 use lib.Ieee.Digits.{Equals}
 use lib.Ieee.Positive.{num, den, den-pos}
-use Rattle.best.specs.ChiSquare.{chi, unitsOf, exact, Frac, plus, squared, exactSum, Ratio, Fine, AllFine, parts, AtMost}
+use Rattle.best.specs.ChiSquare.{chi, unitsOf, exact, Frac, plus, squared, exactSum, Ratio, TameValue, AllTameValues, parts, AtMost}
 use Rattle.best.proofs.Ratios as Ratios
 use Rattle.best.proofs.Rounding.{P}
 use Rattle.best.proofs.Residuals.{units-of}
@@ -23,11 +23,11 @@ num-units nan u h = absurd h
 num-units (inf s) u h = absurd h
 num-units (fin s m e) u h = h
 
-squared-is : (x : Float) → Fine x → Ratio (squared x) (unitsOf x * unitsOf x) (2 ^ 2148)
+squared-is : (x : Float) → TameValue x → Ratio (squared x) (unitsOf x * unitsOf x) (2 ^ 2148)
 squared-is x f =
     (mul-pos (den-pos x) (den-pos x), Ratios.square (num x) (den x) (unitsOf x) P (num-units x (unitsOf x) (units-of x f)))
 
-pub exact-is-sum : (h d : ℕ → Float) (n : ℕ) → AllFine h d n → Ratio (exactSum h d n) (exact h d n) (2 ^ 2148)
+pub exact-is-sum : (h d : ℕ → Float) (n : ℕ) → AllTameValues h d n → Ratio (exactSum h d n) (exact h d n) (2 ^ 2148)
 unfolding exactSum exact
 exact-is-sum h d zero f = (zero-lt-suc 0, refl)
 exact-is-sum h d (suc n) f =
@@ -43,7 +43,7 @@ at-most a b u v q Q h k l =
     Ratios.order (a .over * b .under) (b .over * a .under) (a .under * b .under) u v q parts (parts + 1) Q
     (Ratios.left (a .over) (a .under) (b .under) u q (h .1)) (Ratios.right (b .over) (a .under) (b .under) v q (k .1)) l
 
-pub fraction-of-not-lt : (h d h' d' : ℕ → Float) (n : ℕ) → n ≤ 1024 → AllFine h d n → AllFine h' d' n
+pub fraction-of-not-lt : (h d h' d' : ℕ → Float) (n : ℕ) → n ≤ 1024 → AllTameValues h d n → AllTameValues h' d' n
     → T (not (lt (chi h' d' n) (chi h d n))) → AtMost (exactSum h d n) (exactSum h' d' n)
 fraction-of-not-lt h d h' d' n l f g t =
     at-most (exactSum h d n) (exactSum h' d' n) (exact h d n) (exact h' d' n) (2 ^ 2148) (pow-pos 2148)

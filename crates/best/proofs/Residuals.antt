@@ -14,7 +14,7 @@ use lib.Ieee.Digits.{Equals}
 use lib.Ieee.Fits.{down-pos, and-l, and-r}
 use Rattle.float.specs.Float.{_⊗_}
 use Rattle.float.proofs.Units.{in-units}
-use Rattle.best.specs.ChiSquare.{unitsOf, tame, Fine}
+use Rattle.best.specs.ChiSquare.{unitsOf, tame, TameValue}
 use Rattle.best.proofs.Rounding.{P}
 use Rattle.best.proofs.Operations.{Within, square-within}
 
@@ -29,7 +29,7 @@ low-enough s m e t =
 whole : (n q c : ℕ) → 0 < c → n ≡ q * c → n ≡ n / c * c
 whole n q c C e = e ∙ ap (λ (z : ℕ). z * c) (sym (ap (λ (z : ℕ). z / c) e ∙ mul-div-cancel q C))
 
-pub units-of : (x : Float) → Fine x → Equals x (unitsOf x) P
+pub units-of : (x : Float) → TameValue x → Equals x (unitsOf x) P
 unfolding tame unitsOf
 units-of nan f = f .1
 units-of (inf s) f = f .1
@@ -77,11 +77,11 @@ size-of (fin s m c) u t e =
 
 -- ---- its square
 
-pub square-of : (x : Float) → Fine x → Within (x ⊗ x) 1 (unitsOf x * unitsOf x)
+pub square-of : (x : Float) → TameValue x → Within (x ⊗ x) 1 (unitsOf x * unitsOf x)
 square-of x f =
     let e = units-of x f in
     let (lo, hi) = size-of x (unitsOf x) (f .1) e in
     square-within x (unitsOf x) e lo hi
 
-pub square-le : (x : Float) → Fine x → unitsOf x * unitsOf x ≤ 2 ^ 2948
+pub square-le : (x : Float) → TameValue x → unitsOf x * unitsOf x ≤ 2 ^ 2948
 square-le x f = let (lo, hi) = size-of x (unitsOf x) (f .1) (units-of x f) in mul-le-mul hi hi

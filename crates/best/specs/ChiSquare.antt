@@ -59,11 +59,11 @@ abbrev pub AllTame : (ℕ → Float) → (ℕ → Float) → ℕ → Type 0
 AllTame h d n = (i : ℕ) → i < n → T (tame (h i)) × T (tame (d i))
 
 -- a value of binary64, as every operation gives, that is tame
-abbrev pub Fine : Float → Type 0
-Fine x = T (fits binary64 x) × T (tame x)
+abbrev pub TameValue : Float → Type 0
+TameValue x = T (fits binary64 x) × T (tame x)
 
-abbrev pub AllFine : (ℕ → Float) → (ℕ → Float) → ℕ → Type 0
-AllFine h d n = (i : ℕ) → i < n → Fine (h i) × Fine (d i)
+abbrev pub AllTameValues : (ℕ → Float) → (ℕ → Float) → ℕ → Type 0
+AllTameValues h d n = (i : ℕ) → i < n → TameValue (h i) × TameValue (d i)
 
 -- the bound is one part in so many
 abbrev pub parts : ℕ

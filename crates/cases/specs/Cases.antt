@@ -1,4 +1,5 @@
--- The cases of document 01, "Readings and fits", as one table. Starred there: every row but the last three, HXSHCD2, TX2 and the four stars.
+-- The cases of docs/SCOPE.md 12.1 as one table. Starred there: every row but the last three, HXSHCD2, TX2 and the four stars, and the one before
+-- them, the iterated file case.
 -- Definitions only.
 use Prim.Native.Nat.{ℕ, zero, suc, _+_, _*_}
 use Prim.Native.String.{String}
@@ -76,8 +77,8 @@ abbrev pub east : ℕ
 east = 1
 
 -- the name s at such a sheet and the latitude 0 has the Jacobian p
-abbrev pub slopes : String → Float → ℕ → Pair → Row
-slopes s c pier p = record { got = jacobian (jacobianOf (slot s) (sheet c) #0 #1 pier); wanted = jacobian (Given p) }
+abbrev pub hasJacobian : String → Float → ℕ → Pair → Row
+hasJacobian s c pier p = record { got = jacobian (jacobianOf (slot s) (sheet c) #0 #1 pier); wanted = jacobian (Given p) }
 
 -- ---- fits
 
@@ -176,13 +177,13 @@ rows =
     reads "HHS" (refused 10) ∷
     reads "HHSH0" (refused 10) ∷
     reads "HHSH12" (refused 10) ∷
-    slopes "CH" half west (pairOf #2 #0) ∷
-    slopes "IH" #1 east (pairOf (neg #1) #0) ∷
+    hasJacobian "CH" half west (pairOf #2 #0) ∷
+    hasJacobian "IH" #1 east (pairOf (neg #1) #0) ∷
     fileCase ∷
     fileCaseIterated ∷
     reads "HXSHCD2"
     (accepted (Harmonic ResultType.X) (ascii "HXSHCD2") (arrayOf (component TrigFunc.Sin Coordinate.H 1 ∷ component TrigFunc.Cos Coordinate.D 2 ∷ []))) ∷
-    slopes "TX2" #1 east (pairOf #0 #0) ∷
+    hasJacobian "TX2" #1 east (pairOf #0 #0) ∷
     fourStars ∷
     []
 

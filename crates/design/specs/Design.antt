@@ -1,4 +1,4 @@
--- Stars, the design's columns and the residuals, as document 01 and solver/design.rs have them. A vector has two numbers a star, hour angle
+-- Stars, the design's columns and the residuals, as docs/SCOPE.md 7 and 8 and solver/design.rs have them. A vector has two numbers a star, hour angle
 -- and declination. Definitions only.
 use Prim.Native.Nat.{ℕ, _*_, _+_, _-_}
 use mathlib.Core.Bool.{Bool, cond}
@@ -50,17 +50,17 @@ rows f g (s ∷ ss) = f s ∷ g s ∷ rows f g ss
 abbrev pub cosDec : List Float → Float
 cosDec sheet = at sheet (placeDec 1 + 1)
 
-abbrev pub slope : Float → Float → Term → ℕ → List Float → Pair
-slope sinLat cosLat t pier sheet = termJacobian t sheet sinLat cosLat (signOf (sideOf pier))
+abbrev pub starJacobian : Float → Float → Term → ℕ → List Float → Pair
+starJacobian sinLat cosLat t pier sheet = termJacobian t sheet sinLat cosLat (signOf (sideOf pier))
 
 -- build_design_matrix: the column of a term
 unfoldable pub column : Float → Float → List Star → Term → List Float
-column sinLat cosLat ss t = rows (λ s. slope sinLat cosLat t (s .pier) (s .sheet) .dh) (λ s. slope sinLat cosLat t (s .pier) (s .sheet) .dd) ss
+column sinLat cosLat ss t = rows (λ s. starJacobian sinLat cosLat t (s .pier) (s .sheet) .dh) (λ s. starJacobian sinLat cosLat t (s .pier) (s .sheet) .dd) ss
 
 -- scale_a_ha_rows_by_cos_dec: its hour-angle rows times cos dec
 unfoldable pub skyColumn : Float → Float → List Star → Term → List Float
 skyColumn sinLat cosLat ss t =
-    rows (λ s. slope sinLat cosLat t (s .pier) (s .sheet) .dh ⊗ cosDec (s .sheet)) (λ s. slope sinLat cosLat t (s .pier) (s .sheet) .dd) ss
+    rows (λ s. starJacobian sinLat cosLat t (s .pier) (s .sheet) .dh ⊗ cosDec (s .sheet)) (λ s. starJacobian sinLat cosLat t (s .pier) (s .sheet) .dd) ss
 
 -- build_residuals, and scale_ha_rows_by_cos_dec
 unfoldable pub differences : List Star → List Float
@@ -121,6 +121,6 @@ unfoldable pub weighing : Float → List Float → List Float → List Float
 weighing k b a = cond (lt #0 k) (zipWith (weighed k) b a) a
 
 -- ---- columns one after the other, as the solver reads them: h numbers each, with zeros below the data rows
-unfoldable pub laid : ℕ → List (List Float) → List Float
-laid h [] = []
-laid h (a ∷ l) = a ++ replicate (h - length a) #0 ++ laid h l
+unfoldable pub stacked : ℕ → List (List Float) → List Float
+stacked h [] = []
+stacked h (a ∷ l) = a ++ replicate (h - length a) #0 ++ stacked h l

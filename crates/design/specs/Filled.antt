@@ -8,23 +8,23 @@ use Rattle.float.specs.Float.{_⊗_}
 use Rattle.sequence.specs.Sequence.{at}
 use Rattle.observation.specs.declared.Pair.{Pair}
 use Rattle.terms.specs.declared.Term.{Term}
-use Rattle.design.specs.Design.{sheetAt, cosDec, slope}
+use Rattle.design.specs.Design.{sheetAt, cosDec, starJacobian}
 
 -- f 0, g 0, f 1, g 1 and so on, n of each
 unfoldable pub rowsTo : ℕ → (ℕ → Float) → (ℕ → Float) → List Float
 rowsTo zero f g = []
 rowsTo (suc n) f g = rowsTo n f g ++ (f n ∷ g n ∷ [])
 
-abbrev pub slopeAt : Float → Float → Term → List ℕ → List Float → ℕ → Pair
-slopeAt sinLat cosLat t pier sheets i = slope sinLat cosLat t (getD pier i 0) (sheetAt sheets i)
+abbrev pub jacobianAt : Float → Float → Term → List ℕ → List Float → ℕ → Pair
+jacobianAt sinLat cosLat t pier sheets i = starJacobian sinLat cosLat t (getD pier i 0) (sheetAt sheets i)
 
 unfoldable pub columnTo : Float → Float → List ℕ → List Float → Term → List Float
 columnTo sinLat cosLat pier sheets t =
-    rowsTo (length pier) (λ i. slopeAt sinLat cosLat t pier sheets i .dh) (λ i. slopeAt sinLat cosLat t pier sheets i .dd)
+    rowsTo (length pier) (λ i. jacobianAt sinLat cosLat t pier sheets i .dh) (λ i. jacobianAt sinLat cosLat t pier sheets i .dd)
 
 unfoldable pub skyColumnTo : Float → Float → List ℕ → List Float → Term → List Float
 skyColumnTo sinLat cosLat pier sheets t =
-    rowsTo (length pier) (λ i. slopeAt sinLat cosLat t pier sheets i .dh ⊗ cosDec (sheetAt sheets i)) (λ i. slopeAt sinLat cosLat t pier sheets i .dd)
+    rowsTo (length pier) (λ i. jacobianAt sinLat cosLat t pier sheets i .dh ⊗ cosDec (sheetAt sheets i)) (λ i. jacobianAt sinLat cosLat t pier sheets i .dd)
 
 unfoldable pub differencesTo : List Float → List Float → List Float
 differencesTo dh dd = rowsTo (length dh) (at dh) (at dd)

@@ -8,15 +8,22 @@ ghost use lib.Seq.{sets};
 ghost use lib.Ieee.{binary64, sub};
 ghost use Rattle.sequence.specs.Sequence.{at, part};
 ghost use Rattle.design.specs.Design.{sheetAt, cosDec, less, plus, freeCount, weighed as weighedOf, weighing};
-ghost use Rattle.design.specs.Filled.{slopeAt, columnTo, skyColumnTo, differencesTo, skyDifferencesTo, skyRows, Beside};
+ghost use Rattle.design.specs.Filled.{jacobianAt, columnTo, skyColumnTo, differencesTo, skyDifferencesTo, skyRows, Beside};
 use observation::Pair;
 use observation::PierSide;
 use terms::Term;
 
 // The Jacobian of a term at star i: the part of the lent sheets that belongs to it is passed on.
-fn slope_at(term: Term, pier: &[u8], sheets: &[f64], sin_lat: f64, cos_lat: f64, i: usize) -> Pair
+fn jacobian_at(
+    term: Term,
+    pier: &[u8],
+    sheets: &[f64],
+    sin_lat: f64,
+    cos_lat: f64,
+    i: usize,
+) -> Pair
     requires { ⌜ (i < length (now pier)) × (length (now sheets) ≡ 37 * length (now pier)) ⌝ }
-    ensures { λ r. ⌜ r ≡ slopeAt «sin_lat» «cos_lat» term (now (pier .entry)) (now (sheets .entry)) i ⌝ }
+    ensures { λ r. ⌜ r ≡ jacobianAt «sin_lat» «cos_lat» term (now (pier .entry)) (now (sheets .entry)) i ⌝ }
 {
     let a = 37 * i;
     let sign = PierSide::from_code(pier[i]).sign();
@@ -45,7 +52,7 @@ pub fn fill_column(
     ensures { λ _. ⌜ now (col .exit) ≡ columnTo «sin_lat» «cos_lat» (now (pier .entry)) (now (sheets .entry)) term ⌝ }
 {
     for i in 0..pier.len() {
-        let p = slope_at(term, pier, sheets, sin_lat, cos_lat, i);
+        let p = jacobian_at(term, pier, sheets, sin_lat, cos_lat, i);
         col[2 * i] = p.dh;
         col[2 * i + 1] = p.dd;
     }
@@ -64,7 +71,7 @@ pub fn fill_sky_column(
     ensures { λ _. ⌜ now (col .exit) ≡ skyColumnTo «sin_lat» «cos_lat» (now (pier .entry)) (now (sheets .entry)) term ⌝ }
 {
     for i in 0..pier.len() {
-        let p = slope_at(term, pier, sheets, sin_lat, cos_lat, i);
+        let p = jacobian_at(term, pier, sheets, sin_lat, cos_lat, i);
         let c = cos_dec(sheets, i);
         col[2 * i] = p.dh * c;
         col[2 * i + 1] = p.dd;
@@ -85,7 +92,7 @@ pub fn add_column(
     ensures { λ _. ⌜ now (b .exit) ≡ plus c (now (b .entry)) (columnTo «sin_lat» «cos_lat» (now (pier .entry)) (now (sheets .entry)) term) ⌝ }
 {
     for i in 0..pier.len() {
-        let p = slope_at(term, pier, sheets, sin_lat, cos_lat, i);
+        let p = jacobian_at(term, pier, sheets, sin_lat, cos_lat, i);
         let h = b[2 * i] + p.dh * c;
         let d = b[2 * i + 1] + p.dd * c;
         b[2 * i] = h;

@@ -1,4 +1,4 @@
--- The Jacobians of the equatorial terms, from document 01 and terms/equatorial.rs, in binary64 and in the source's order of operations. Definitions only.
+-- The Jacobians of the equatorial terms, from docs/SCOPE.md 4.4 and terms/equatorial.rs, in binary64 and in the source's order of operations. Definitions only.
 use Prim.Native.Nat.{ℕ, zero, suc, _-_}
 use mathlib.Core.Bool.{Bool, cond}
 use lib.Ieee.{Float, binary64, ofBits, neg, lt}

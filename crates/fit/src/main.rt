@@ -1,4 +1,4 @@
-// The file program: a file on standard input, its listing on standard output (document 01, "The file program").
+// The file program: a file on standard input, its listing on standard output (docs/SCOPE.md 11).
 
 use listing::LISTING;
 

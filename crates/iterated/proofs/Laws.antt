@@ -25,7 +25,7 @@ use Rattle.outcome.proofs.Laws.{skyTo-at, sky-same}
 use Rattle.lm_system.specs.System.{residuals, skyResiduals, weighedResiduals, weighedColumn, huberK, lmStep, movedAt, moved, stepNorm, Left, LmStepped}
 use Rattle.iterated.specs.declared.Trial.{Trial}
 use Rattle.iterated.specs.declared.Trial.the-variants.{Accepted, Rejected}
-use Rattle.iterated.specs.Iterated.{under, chi2At, Tried, triedTo, trialOf, Report, report, hopeless, answered, leaves, trials, lastStep, lastSet, lastChi2, freeResiduals, Within, Proposed, LastTried}
+use Rattle.iterated.specs.Iterated.{under, chi2At, Tried, triedTo, trialOf, Report, report, lambdaLimit, answered, leaves, trials, lastStep, lastSet, lastChi2, freeResiduals, Within, Proposed, LastTried}
 
 -- the same call with another set
 pub fits-under : (l : FitInputs) (s w v : List Float) → Fits l w → length s ≡ length (l .coefficients) → length v ≡ length w → Fits (under l s) v
@@ -143,10 +143,10 @@ module _ (l : FitInputs) (o : IterOptions) (whole : Report) (set : List Float) (
     accepted-left h = is-left (trials l o) (o .«max_iter») whole _ i more inv _ (rw (is, h) at turned) (rw (is, h) at left-by)
 
   module _ (raised : Float) (is : r ≡ Rejected raised) where
-    pub rejected-on : lt hopeless raised ≡ false → whole ≡ after (trials l o) (o .«max_iter» - (i + 1)) (report y (i + 1) false raised norm chi2)
+    pub rejected-on : lt lambdaLimit raised ≡ false → whole ≡ after (trials l o) (o .«max_iter» - (i + 1)) (report y (i + 1) false raised norm chi2)
     rejected-on h = goes-on (trials l o) (o .«max_iter») whole _ i more inv _ (rw is at turned) (rw (is, h) at left-by)
 
-    pub rejected-left : lt hopeless raised ≡ true → report y (i + 1) false raised norm chi2 ≡ whole
+    pub rejected-left : lt lambdaLimit raised ≡ true → report y (i + 1) false raised norm chi2 ≡ whole
     rejected-left h = is-left (trials l o) (o .«max_iter») whole _ i more inv _ (rw is at turned) (rw (is, h) at left-by)
 
 -- ---- the last trial: its proposal, and the residuals that come after it

@@ -25,7 +25,7 @@ use Rattle.stats.specs.declared.Sky.{Sky}
 use Rattle.best.specs.ChiSquare.{chi}
 use Rattle.stats.specs.Stats.{sumSqSky, rmsOf, sdOf, skyRms, popnSd, skyFrom, variance, sigmaAt}
 use Rattle.design.specs.Design.{freeCount}
-use Rattle.outcome.specs.Outcome.{cosDecs, rowsOf, heightOf, diagnosticFrom, threes, resultOf, outcome, finished, Fits}
+use Rattle.outcome.specs.Outcome.{cosDecs, rowsOf, heightOf, diagnosticFrom, diagnosticNumbers, resultOf, outcome, finished, Fits}
 use Rattle.outcome.proofs.Laws.{placed-solved, finishes, answers}
 use Rattle.lm_system.specs.System.{residuals, chi2Of, huberK, lmStep}
 use Rattle.iterated.specs.declared.LmLoopResult.{LmLoopResult}
@@ -79,7 +79,7 @@ pub whole : (l : FitInputs) (o : IterOptions) (b : Buffers) (w zs set moved out�
     → out′ ≡ filled (length (l .coefficients)) (at set) (b .coefficients)
     → change′ ≡ filled (length (l .coefficients)) (at moved) (b .change)
     → (sigma′ ≡ filled (length (l .coefficients)) (at (filled (length (l .coefficients)) (sigmaAt (l .fixed) (variance (part w (2 * length (l .dh)) (2 * length (l .dh))) (length (l .dh)) (a .rank)) (a .«cov_diag»)) zeros)) (b .sigma))
-    × (diag′ ≡ threes (length (l .dh)) (diagnosticFrom (length (l .dh)) (a .rank) (part w (2 * length (l .dh)) (2 * length (l .dh))) (leverageOf (heightOf l) (part w (8 * length (l .dh)) (freeCount (l .fixed) * heightOf l)) (take (freeCount (l .fixed)) (a .order)) (a .«inv_s»))) ++ drop (3 * length (l .dh)) (b .diagnostics))
+    × (diag′ ≡ diagnosticNumbers (length (l .dh)) (diagnosticFrom (length (l .dh)) (a .rank) (part w (2 * length (l .dh)) (2 * length (l .dh))) (leverageOf (heightOf l) (part w (8 * length (l .dh)) (freeCount (l .fixed) * heightOf l)) (take (freeCount (l .fixed)) (a .order)) (a .«inv_s»))) ++ drop (3 * length (l .dh)) (b .diagnostics))
     → sky ≡ record { rms = rmsOf (length (l .dh)) chi2; «popn_sd» = sdOf (length (l .dh)) free chi2 }
     → need ≤ length w → zs ≡ replicate (length (take need w)) #0
     → outcome

@@ -71,8 +71,8 @@ report set iterations converged lambda norm chi2 =
     record { set = set; how = record { iterations = iterations; converged = converged; lambda = lambda; «last_step_norm» = norm; «prev_chi2» = chi2 } }
 
 -- the damping above which the loop is left: 1e12
-abbrev pub hopeless : Float
-hopeless = ofBits binary64 0x426d_1a94_a200_0000
+abbrev pub lambdaLimit : Float
+lambdaLimit = ofBits binary64 0x426d_1a94_a200_0000
 
 -- what an answer makes of a report, and whether the loop is left
 abbrev pub answered : IterOptions → Report → Trial → List Float → Report
@@ -82,7 +82,7 @@ answered o r (Rejected lambda) set = report set (r .how .iterations + 1) (r .how
 
 abbrev pub leaves : IterOptions → Trial → Bool
 leaves o (Accepted chi2 norm) = lt norm (o .«tol_rad»)
-leaves o (Rejected lambda) = lt hopeless lambda
+leaves o (Rejected lambda) = lt lambdaLimit lambda
 
 abbrev pub trialAt : FitInputs → IterOptions → Report → Tried
 trialAt l o r = trialOf l o (r .how .«prev_chi2») (r .how .lambda) (r .set)

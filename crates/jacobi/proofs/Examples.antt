@@ -1,5 +1,5 @@
 -- antt runs the definition on matrices of two columns and two rows, each column with its column of V below it. The bits are those that
--- bench/examples.rs prints: plain Rust, written from document 01.
+-- bench/examples.rs prints: plain Rust, written from docs/SCOPE.md 6.2.
 use mathlib.Core.Path.{_≡_, refl}
 use mathlib.Core.Bool.{true}
 use mathlib.Core.List.{List, [], _∷_, zipWith, map}

@@ -1,4 +1,4 @@
--- One-sided Jacobi, sentence by sentence as document 01 "Substitutions" states it, on m columns that lie one after the other in a list.
+-- One-sided Jacobi, sentence by sentence as docs/SCOPE.md 6.2 states it, on m columns that lie one after the other in a list.
 -- A column is h numbers: `rows` of A, then m of V, then what the list holds besides. V starts as the identity, which `decomposed` of
 -- linalg writes there. Definitions only.
 use mathlib.Core.Bool.{Bool, true, false, cond}

@@ -1,4 +1,4 @@
-// One-sided Jacobi, document 01's substitute for nalgebra's singular value decomposition. A matrix A
+// One-sided Jacobi (docs/SCOPE.md 6.2) in the place of nalgebra's singular value decomposition. A matrix A
 // and V below it lie in one lent slice w, column after column: of the h numbers of a column the first
 // `rows` are A's (data rows, and damping rows below them where there are any) and the next m are V's,
 // so that one turn turns A and V.

@@ -23,7 +23,7 @@ abbrev #20 : Float
 abbrev quarter : Float
 quarter = ofBits binary64 0x3fd0_0000_0000_0000
 
--- document 01's four stars: one column, of which every other row is 1
+-- the four stars of docs/SCOPE.md 12.1: one column, of which every other row is 1
 abbrev four : Solved
 four =
     solved 10 8 1 (#0 ∷ #1 ∷ #0 ∷ #1 ∷ #0 ∷ #1 ∷ #0 ∷ #1 ∷ #0 ∷ #0 ∷ [])

@@ -1,4 +1,4 @@
--- The lines that the file program prints of a fit (document 01). Definitions only.
+-- The lines that the file program prints of a fit (docs/SCOPE.md 11.3). Definitions only.
 use Prim.Native.Nat.{ℕ, _*_}
 use mathlib.Core.Bool.{cond}
 use mathlib.Core.List.{List, _++_}

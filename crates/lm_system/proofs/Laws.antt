@@ -14,7 +14,7 @@ use Rattle.best.specs.ChiSquare.{chi}
 use Rattle.linalg.specs.declared.SolveOutcome.{SolveOutcome}
 use Rattle.linalg.specs.Linalg.{solvedDamped}
 use Rattle.solver.specs.Call.{FitInputs}
-use Rattle.design.specs.Design.{differences, predicted, freeCount, ofFree, weighing, laid}
+use Rattle.design.specs.Design.{differences, predicted, freeCount, ofFree, weighing, stacked}
 use Rattle.design.specs.Filled.{differencesTo, skyRows}
 use Rattle.design.proofs.Free.{free-few}
 use Rattle.products.specs.Products.{weighedTo}
@@ -102,7 +102,7 @@ module _ (l : FitInputs) (w : List Float) (f : Fits l w) where
       → (part w₁ (6 * length (l .dh)) (2 * length (l .dh)) ≡ skyRows (length (l .dh)) (cosDecs l) (part w (2 * length (l .dh)) (2 * length (l .dh))))
       × (part w₁ (4 * length (l .dh)) (2 * length (l .dh)) ≡ weighing k (part w₁ (6 * length (l .dh)) (2 * length (l .dh))) (part w₁ (6 * length (l .dh)) (2 * length (l .dh))))
       × Only (4 * length (l .dh)) (4 * length (l .dh)) w w₁
-      → (part w₂ (8 * length (l .dh)) (freeCount (l .fixed) * heightOf l) ≡ laid (heightOf l) (ofFree (l .fixed) (weighedTo k (part w₁ (6 * length (l .pier)) (2 * length (l .pier))) (l .sinLat) (l .cosLat) (l .names) (l .pier) (l .sheets)) (length (l .fixed))))
+      → (part w₂ (8 * length (l .dh)) (freeCount (l .fixed) * heightOf l) ≡ stacked (heightOf l) (ofFree (l .fixed) (weighedTo k (part w₁ (6 * length (l .pier)) (2 * length (l .pier))) (l .sinLat) (l .cosLat) (l .names) (l .pier) (l .sheets)) (length (l .fixed))))
       × Only (8 * length (l .dh)) (length (l .fixed) * heightOf l) w₁ w₂
       → (record { outcome = o; w = part w₃ (8 * length (l .dh)) (free * heightOf l) }
       ≡ solvedDamped (heightOf l) (2 * length (l .dh)) free (part w₂ (8 * length (l .dh)) (free * heightOf l)) (part w₂ (4 * length (l .dh)) (2 * length (l .dh))) lambda (l .fitTol))
@@ -117,15 +117,15 @@ module _ (l : FitInputs) (w : List Float) (f : Fits l w) where
       let same = f .pier-count in
       let sky₁ : part w₁ (6 * length (l .pier)) (2 * length (l .pier)) ≡ skyResiduals l = rw same (p₁ .0) in
       let b₂ = p₂ .1 .below (4 * n) (2 * n) (omega arith) ∙ p₁ .1 in
-      let cols = p₂ .0 ∙ ap (λ (r : List Float). laid h (ofFree (l .fixed) (λ j. weighing k r (skyTo-at l j)) (length (l .fixed)))) sky₁
-      ∙ ap (λ a. laid h (ofFree (l .fixed) (λ j. weighing k (skyResiduals l) (a j)) (length (l .fixed)))) (sky-same l same) in
+      let cols = p₂ .0 ∙ ap (λ (r : List Float). stacked h (ofFree (l .fixed) (λ j. weighing k r (skyTo-at l j)) (length (l .fixed)))) sky₁
+      ∙ ap (λ a. stacked h (ofFree (l .fixed) (λ j. weighing k (skyResiduals l) (a j)) (length (l .fixed)))) (sky-same l same) in
       let s = rw q at (p₃ .0) in
       let all = 8 * n + length (l .coefficients) * h in
       let few : free ≤ length (l .coefficients) = rw (q, ← f .fixed-count) (free-few (l .fixed) (length (l .fixed))) in
       let fixed : length (l .fixed) * h ≡ length (l .coefficients) * h = ap (λ (i : ℕ). i * h) (f .fixed-count) in
       record {
         solution = s ∙ ap (λ (a : List Float). solvedDamped h (2 * n) (freeCount (l .fixed)) a (part w₂ (4 * n) (2 * n)) lambda (l .fitTol)) cols
-            ∙ ap (λ (a : List Float). solvedDamped h (2 * n) (freeCount (l .fixed)) (laid h (ofFree (l .fixed) (weighedColumn l k) (length (l .fixed)))) a lambda (l .fitTol)) b₂;
+            ∙ ap (λ (a : List Float). solvedDamped h (2 * n) (freeCount (l .fixed)) (stacked h (ofFree (l .fixed) (weighedColumn l k) (length (l .fixed)))) a lambda (l .fitTol)) b₂;
         b = p₃ .1 .below (4 * n) (2 * n) (omega arith) ∙ b₂;
         sky = p₃ .1 .below (6 * n) (2 * n) (omega arith) ∙ p₂ .1 .below (6 * n) (2 * n) (omega arith) ∙ p₁ .0;
         only = only-then 0 all w w₂ w₃

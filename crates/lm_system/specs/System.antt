@@ -17,7 +17,7 @@ use Rattle.linalg.specs.declared.SolveOutcome.{SolveOutcome}
 use Rattle.linalg.specs.Linalg.{Solved, solvedDamped}
 use Rattle.solver.specs.declared.IterOptions.{IterOptions}
 use Rattle.solver.specs.Call.{FitInputs}
-use Rattle.design.specs.Design.{termAt, isFree, freeBefore, freeCount, ofFree, differences, predicted, weighing, laid}
+use Rattle.design.specs.Design.{termAt, isFree, freeBefore, freeCount, ofFree, differences, predicted, weighing, stacked}
 use Rattle.design.specs.Filled.{skyRows}
 use Rattle.stats.specs.Stats.{sqrt, count, degrees}
 use Rattle.outcome.specs.Outcome.{starsOf, cosDecs, columnOf, skyOf, rowsOf, heightOf}
@@ -63,7 +63,7 @@ weighedColumn l k j = weighing k (skyResiduals l) (skyOf l j)
 
 unfoldable pub lmStep : FitInputs → Float → Float → Solved
 lmStep l k lambda =
-    solvedDamped (heightOf l) (rowsOf l) (freeCount (l .fixed)) (laid (heightOf l) (ofFree (l .fixed) (weighedColumn l k) (length (l .fixed)))) (weighedResiduals l k)
+    solvedDamped (heightOf l) (rowsOf l) (freeCount (l .fixed)) (stacked (heightOf l) (ofFree (l .fixed) (weighedColumn l k) (length (l .fixed)))) (weighedResiduals l k)
     lambda (l .fitTol)
 
 -- ---- trial_state_from

@@ -1,4 +1,4 @@
-// The questions of a model, given by its names and coefficients, and of what else a call takes, in document 01's order.
+// The questions of a model, given by its names and coefficients, and of what else a call takes, in the order of docs/SCOPE.md 10.2.
 
 ghost use mathlib.Core.Path.{_≡_};
 ghost use lib.ListN.{length};

@@ -1,4 +1,4 @@
--- The side of the pier, by its code and as a sign, from document 01 and observation.rs; a pair of contributions. Definitions only.
+-- The side of the pier, by its code and as a sign, from docs/SCOPE.md 3.2 and observation.rs; a pair of contributions. Definitions only.
 use Prim.Native.Nat.{ℕ}
 use mathlib.Core.Bool.{cond}
 use lib.Dec.{eqb}

@@ -1,4 +1,4 @@
--- What a sheet holds: 37 numbers, from document 01, "Trigonometry is lent". A read past the end of a list is a NaN. Definitions only.
+-- What a sheet holds: 37 numbers, from docs/SCOPE.md 3.1. A read past the end of a list is a NaN. Definitions only.
 use Prim.Native.Nat.{ℕ, _+_, _*_, _-_}
 use mathlib.Core.List.{List}
 use lib.Ieee.{Float}

@@ -21,12 +21,12 @@ use Rattle.solver.specs.declared.IterReport.{IterReport}
 use Rattle.stats.specs.declared.Sky.{Sky}
 use Rattle.solver.specs.Call.{FitInputs, Buffers, buffers, sizesOf}
 use Rattle.validate.specs.Questions.{scratchNeeded, Ready}
-use Rattle.design.specs.Design.{Star, stars, starAt, termAt, slope, cosDec, freeCount, column, skyColumn, differences, skyDifferences}
+use Rattle.design.specs.Design.{Star, stars, starAt, termAt, starJacobian, cosDec, freeCount, column, skyColumn, differences, skyDifferences}
 use Rattle.design.specs.Filled.{rowsTo, columnTo, skyColumnTo, differencesTo, skyDifferencesTo}
 use Rattle.design.proofs.Rows.{rows-table}
 use Rattle.design.proofs.Free.{free-few}
 use Rattle.stats.specs.Stats.{skyFrom, variance, sigmaAt}
-use Rattle.outcome.specs.Outcome.{starsOf, cosDecs, columnOf, skyOf, rowsOf, heightOf, sigmaOf, diagnosticFrom, diagnosticOf, threes, resultOf, outcome, finished, Fits}
+use Rattle.outcome.specs.Outcome.{starsOf, cosDecs, columnOf, skyOf, rowsOf, heightOf, sigmaOf, diagnosticFrom, diagnosticOf, diagnosticNumbers, resultOf, outcome, finished, Fits}
 
 -- ---- by the list of stars
 
@@ -44,8 +44,8 @@ module _ (l : FitInputs) (same : length (l .pier) ≡ length (l .dh)) where
       fun-ext
       (λ j.
       let t = termAt (l .names) j in
-      let f : Star → Float = λ s. slope (l .sinLat) (l .cosLat) t (s .pier) (s .sheet) .dh in
-      let g : Star → Float = λ s. slope (l .sinLat) (l .cosLat) t (s .pier) (s .sheet) .dd in
+      let f : Star → Float = λ s. starJacobian (l .sinLat) (l .cosLat) t (s .pier) (s .sheet) .dh in
+      let g : Star → Float = λ s. starJacobian (l .sinLat) (l .cosLat) t (s .pier) (s .sheet) .dd in
       let star : ℕ → Star = starAt (l .dh) (l .dd) (l .pier) (l .sheets) in
       ap (λ (n : ℕ). rowsTo n (λ i. f (star i)) (λ i. g (star i))) same ∙ sym (rows-table f g star (length (l .dh))))
 
@@ -55,8 +55,8 @@ module _ (l : FitInputs) (same : length (l .pier) ≡ length (l .dh)) where
       fun-ext
       (λ j.
       let t = termAt (l .names) j in
-      let f : Star → Float = λ s. slope (l .sinLat) (l .cosLat) t (s .pier) (s .sheet) .dh ⊗ cosDec (s .sheet) in
-      let g : Star → Float = λ s. slope (l .sinLat) (l .cosLat) t (s .pier) (s .sheet) .dd in
+      let f : Star → Float = λ s. starJacobian (l .sinLat) (l .cosLat) t (s .pier) (s .sheet) .dh ⊗ cosDec (s .sheet) in
+      let g : Star → Float = λ s. starJacobian (l .sinLat) (l .cosLat) t (s .pier) (s .sheet) .dd in
       let star : ℕ → Star = starAt (l .dh) (l .dd) (l .pier) (l .sheets) in
       ap (λ (n : ℕ). rowsTo n (λ i. f (star i)) (λ i. g (star i))) same ∙ sym (rows-table f g star (length (l .dh))))
 
@@ -169,14 +169,14 @@ module _ (fixed : List ℕ) (n m h rank free fc : ℕ) (w : List Float) (same : 
       ei ∙ ap (λ (x : List Float). filled m (at x) was) (es ∙ ap (λ (v : Float). filled m (sigmaAt fixed v cov) zeros) (e ∙ ap (λ (r : List Float). variance r n rank) residuals-lent))
 
   pub diagnostics-given : (order : List ℕ) (inv was is : List Float)
-      → is ≡ threes n (diagnosticFrom n rank (take (2 * n + 2 * n - 2 * n) (drop (2 * n) w)) (leverageOf h (take (8 * n + free * h - 8 * n) (drop (8 * n) w)) (take free order) inv)) ++ drop (3 * n) was
-      → is ≡ threes n (diagnosticFrom n rank (part w (2 * n) (2 * n)) (leverageOf h (part w (8 * n) (fc * h)) (take fc order) inv)) ++ drop (3 * n) was
+      → is ≡ diagnosticNumbers n (diagnosticFrom n rank (take (2 * n + 2 * n - 2 * n) (drop (2 * n) w)) (leverageOf h (take (8 * n + free * h - 8 * n) (drop (8 * n) w)) (take free order) inv)) ++ drop (3 * n) was
+      → is ≡ diagnosticNumbers n (diagnosticFrom n rank (part w (2 * n) (2 * n)) (leverageOf h (part w (8 * n) (fc * h)) (take fc order) inv)) ++ drop (3 * n) was
   diagnostics-given order inv was is e =
       let u = take (8 * n + free * h - 8 * n) (drop (8 * n) w) in
       let eu : u ≡ part w (8 * n) (fc * h) = ap (λ (k : ℕ). take k (drop (8 * n) w)) (add-sub-cancel-left (8 * n) (free * h)) ∙ ap (λ (k : ℕ). part w (8 * n) (k * h)) same in
-      e ∙ ap (λ (r : List Float). threes n (diagnosticFrom n rank r (leverageOf h u (take free order) inv)) ++ drop (3 * n) was) residuals-lent
-      ∙ ap (λ (v : List Float). threes n (diagnosticFrom n rank (part w (2 * n) (2 * n)) (leverageOf h v (take free order) inv)) ++ drop (3 * n) was) eu
-      ∙ ap (λ (k : ℕ). threes n (diagnosticFrom n rank (part w (2 * n) (2 * n)) (leverageOf h (part w (8 * n) (fc * h)) (take k order) inv)) ++ drop (3 * n) was) same
+      e ∙ ap (λ (r : List Float). diagnosticNumbers n (diagnosticFrom n rank r (leverageOf h u (take free order) inv)) ++ drop (3 * n) was) residuals-lent
+      ∙ ap (λ (v : List Float). diagnosticNumbers n (diagnosticFrom n rank (part w (2 * n) (2 * n)) (leverageOf h v (take free order) inv)) ++ drop (3 * n) was) eu
+      ∙ ap (λ (k : ℕ). diagnosticNumbers n (diagnosticFrom n rank (part w (2 * n) (2 * n)) (leverageOf h (part w (8 * n) (fc * h)) (take k order) inv)) ++ drop (3 * n) was) same
 
 -- ---- the end of a fit
 
@@ -202,7 +202,7 @@ pub finishes : (l : FitInputs) (b : Buffers) (w w₂ zs set moved r out′ chang
     → out′ ≡ filled (length (l .coefficients)) (at set) (b .coefficients)
     → change′ ≡ filled (length (l .coefficients)) (at moved) (b .change)
     → (sigma′ ≡ filled (length (l .coefficients)) (at (filled (length (l .coefficients)) (sigmaAt (l .fixed) (variance (part w (2 * length (l .dh)) (2 * length (l .dh))) (length (l .dh)) (o .rank)) (o .«cov_diag»)) zeros)) (b .sigma))
-    × (diag′ ≡ threes (length (l .dh)) (diagnosticFrom (length (l .dh)) (o .rank) (part w (2 * length (l .dh)) (2 * length (l .dh))) (leverageOf (heightOf l) (part w (8 * length (l .dh)) (freeCount (l .fixed) * heightOf l)) (take (freeCount (l .fixed)) (o .order)) (o .«inv_s»))) ++ drop (3 * length (l .dh)) (b .diagnostics))
+    × (diag′ ≡ diagnosticNumbers (length (l .dh)) (diagnosticFrom (length (l .dh)) (o .rank) (part w (2 * length (l .dh)) (2 * length (l .dh))) (leverageOf (heightOf l) (part w (8 * length (l .dh)) (freeCount (l .fixed) * heightOf l)) (take (freeCount (l .fixed)) (o .order)) (o .«inv_s»))) ++ drop (3 * length (l .dh)) (b .diagnostics))
     → k ≤ 8 * length (l .dh) → Only 0 k w w₂
     → need ≤ length w₂ → zs ≡ replicate (length (take need w₂)) #0
     → outcome (Done answer) (buffers out′ change′ sigma′ diag′ (zs ++ drop need w₂)) ≡ finished l b set moved s r answer
@@ -214,8 +214,8 @@ finishes l b w w₂ zs set moved r out′ change′ sigma′ diag′ o s k need 
     let fc = freeCount (l .fixed) in
     let e₃ = est .0 ∙ ap (λ (x : List Float). filled m (at (filled m (sigmaAt (l .fixed) (variance x n (o .rank)) (o .«cov_diag»)) zeros)) (b .sigma)) er
     ∙ ap (λ (x : Solved). filled m (at (filled m (sigmaAt (l .fixed) (variance r n (x .outcome .rank)) (x .outcome .«cov_diag»)) zeros)) (b .sigma)) es in
-    let e₄ = est .1 ∙ ap (λ (x : List Float). threes n (diagnosticFrom n (o .rank) x (leverageOf h (part w (8 * n) (fc * h)) (take fc (o .order)) (o .«inv_s»))) ++ drop (3 * n) (b .diagnostics)) er
-    ∙ ap (λ (x : Solved). threes n (diagnosticFrom n (x .outcome .rank) r (leverageOf h (x .w) (take fc (x .outcome .order)) (x .outcome .«inv_s»))) ++ drop (3 * n) (b .diagnostics)) es in
+    let e₄ = est .1 ∙ ap (λ (x : List Float). diagnosticNumbers n (diagnosticFrom n (o .rank) x (leverageOf h (part w (8 * n) (fc * h)) (take fc (o .order)) (o .«inv_s»))) ++ drop (3 * n) (b .diagnostics)) er
+    ∙ ap (λ (x : Solved). diagnosticNumbers n (diagnosticFrom n (x .outcome .rank) r (leverageOf h (x .w) (take fc (x .outcome .order)) (x .outcome .«inv_s»))) ++ drop (3 * n) (b .diagnostics)) es in
     let area : (4 * n + 3 * m) * m ≡ m * (2 * n + 2 * m) + (2 * n * m + m * m) = omega arith in
     let all : 8 * n + m * h ≤ need = omega (arith, en, area) in
     let only = only-then 0 (8 * n + m * h) (b .scratch) w w₂ ew (only-wider 0 k 0 (8 * n + m * h) w w₂ (omega arith) (omega (arith, low)) ek) in

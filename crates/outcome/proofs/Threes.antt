@@ -8,24 +8,24 @@ use lib.ListN.{length, getD, set, drop, length-append}
 use lib.Seq.{drop-cons, set-at, append-snoc}
 use lib.Ieee.{Float, nan}
 use Rattle.solver.specs.declared.ObsDiagnostic.{ObsDiagnostic}
-use Rattle.outcome.specs.Outcome.{threes}
+use Rattle.outcome.specs.Outcome.{diagnosticNumbers}
 
 module _ (f : ℕ → ObsDiagnostic) where
-  threes-length : (n : ℕ) → length (threes n f) ≡ 3 * n
-  unfolding threes
-  threes-length zero = refl
-  threes-length (suc n) = length-append (threes n f) (f n .«residual_sky» ∷ f n .leverage ∷ f n .studentized ∷ []) ∙ rw (threes-length n) (omega arith)
+  diagnosticNumbers-length : (n : ℕ) → length (diagnosticNumbers n f) ≡ 3 * n
+  unfolding diagnosticNumbers
+  diagnosticNumbers-length zero = refl
+  diagnosticNumbers-length (suc n) = length-append (diagnosticNumbers n f) (f n .«residual_sky» ∷ f n .leverage ∷ f n .studentized ∷ []) ∙ rw (diagnosticNumbers-length n) (omega arith)
 
-  pub threes-none : (d : List Float) → d ≡ threes 0 f ++ drop (3 * 0) d
-  unfolding threes
-  threes-none d = refl
+  pub diagnosticNumbers-none : (d : List Float) → d ≡ diagnosticNumbers 0 f ++ drop (3 * 0) d
+  unfolding diagnosticNumbers
+  diagnosticNumbers-none d = refl
 
-  pub threes-step : (k : ℕ) (d s : List Float) (v : ObsDiagnostic) → 3 * k + 2 < length d → s ≡ threes k f ++ drop (3 * k) d → v ≡ f k
-      → set (set (set s (3 * k) (v .«residual_sky»)) (3 * k + 1) (v .leverage)) (3 * k + 2) (v .studentized) ≡ threes (k + 1) f ++ drop (3 * (k + 1)) d
-  unfolding threes
-  threes-step k d s v h e q =
-      let R = threes k f in
-      let n : length R ≡ 3 * k = threes-length k in
+  pub diagnosticNumbers-step : (k : ℕ) (d s : List Float) (v : ObsDiagnostic) → 3 * k + 2 < length d → s ≡ diagnosticNumbers k f ++ drop (3 * k) d → v ≡ f k
+      → set (set (set s (3 * k) (v .«residual_sky»)) (3 * k + 1) (v .leverage)) (3 * k + 2) (v .studentized) ≡ diagnosticNumbers (k + 1) f ++ drop (3 * (k + 1)) d
+  unfolding diagnosticNumbers
+  diagnosticNumbers-step k d s v h e q =
+      let R = diagnosticNumbers k f in
+      let n : length R ≡ 3 * k = diagnosticNumbers-length k in
       let x = v .«residual_sky» in
       let y = v .leverage in
       let z = v .studentized in
@@ -45,5 +45,5 @@ module _ (f : ℕ → ObsDiagnostic) where
       let w : 3 * (k + 1) ≡ suc (suc (suc (3 * k))) = omega arith in
       e₃ ∙ rw (w, add-one k, ← q) (simp append-assoc)
 
-  pub threes-end : (k n : ℕ) (d s : List Float) → k ≡ n → s ≡ threes k f ++ drop (3 * k) d → s ≡ threes n f ++ drop (3 * n) d
-  threes-end k n d s e i = i ∙ ap (λ (j : ℕ). threes j f ++ drop (3 * j) d) e
+  pub diagnosticNumbers-end : (k n : ℕ) (d s : List Float) → k ≡ n → s ≡ diagnosticNumbers k f ++ drop (3 * k) d → s ≡ diagnosticNumbers n f ++ drop (3 * n) d
+  diagnosticNumbers-end k n d s e i = i ∙ ap (λ (j : ℕ). diagnosticNumbers j f ++ drop (3 * j) d) e

@@ -56,9 +56,9 @@ unfoldable pub diagnosticOf : FitInputs → Solved → List Float → ℕ → Ob
 diagnosticOf l s r = diagnosticFrom (length (l .dh)) (s .outcome .rank) r (leverageAfter (heightOf l) (freeCount (l .fixed)) s)
 
 -- residual, leverage and studentized residual of n stars, one star after the other
-unfoldable pub threes : ℕ → (ℕ → ObsDiagnostic) → List Float
-threes zero d = []
-threes (suc n) d = threes n d ++ (d n .«residual_sky» ∷ d n .leverage ∷ d n .studentized ∷ [])
+unfoldable pub diagnosticNumbers : ℕ → (ℕ → ObsDiagnostic) → List Float
+diagnosticNumbers zero d = []
+diagnosticNumbers (suc n) d = diagnosticNumbers n d ++ (d n .«residual_sky» ∷ d n .leverage ∷ d n .studentized ∷ [])
 
 -- what a fit answers, from the last solve and the residuals r under the set that is returned
 unfoldable pub resultOf : FitInputs → SolveOutcome → List Float → IterReport → FitResult
@@ -93,7 +93,7 @@ finished l b set change s r answer =
     (filled m (at set) (b .coefficients))
     (filled m (at change) (b .change))
     (filled m (at (sigmaOf l (s .outcome) r)) (b .sigma))
-    (threes n (diagnosticOf l s r) ++ drop (3 * n) (b .diagnostics))
+    (diagnosticNumbers n (diagnosticOf l s r) ++ drop (3 * n) (b .diagnostics))
     (replicate need #0 ++ drop need (b .scratch)))
 
 -- ---- what a fit counts on: as `Ready`, with room for every term's column from 8·n on

@@ -13,7 +13,7 @@ ghost use Rattle.linalg.specs.Linalg.{Placed, leverageOf};
 ghost use Rattle.stats.specs.Stats.{variance, sigmaAt};
 ghost use Rattle.design.specs.Design.{freeCount, freeProduct};
 ghost use Rattle.products.specs.Products.{Held, weighedTo};
-ghost use Rattle.outcome.specs.Outcome.{diagnosticFrom, threes};
+ghost use Rattle.outcome.specs.Outcome.{diagnosticFrom, diagnosticNumbers};
 use linalg::SolveOutcome;
 
 // At 2·n, what lies at 4·n less the product of the free sky columns, weighed, with x: the free terms' residuals.
@@ -51,7 +51,7 @@ fn compute_diagnostics(
     out: &mut [f64],
 )
     requires { ⌜ Placed h (now u) (now o) × (2 * n ≤ h) × (n ≤ 1024) × (length (now r) ≡ 2 * n) × (3 * n ≤ length (now out)) ⌝ }
-    ensures { λ _. ⌜ now (out .exit) ≡ threes n (diagnosticFrom n rank (now (r .entry)) (leverageOf h (now (u .entry)) (now (o .entry)) (now («inv_s» .entry)))) ++ drop (3 * n) (now (out .entry)) ⌝ }
+    ensures { λ _. ⌜ now (out .exit) ≡ diagnosticNumbers n (diagnosticFrom n rank (now (r .entry)) (leverageOf h (now (u .entry)) (now (o .entry)) (now («inv_s» .entry)))) ++ drop (3 * n) (now (out .entry)) ⌝ }
 {
     let s = sqrt::sqrt(stats::variance(r, 2 * n, rank));
     for i in 0..n {
@@ -88,7 +88,7 @@ pub fn statistics(
         × Placed (2 * n + 2 * m) (part (now w) (8 * n) (freeCount (now fixed) * (2 * n + 2 * m))) (take (freeCount (now fixed)) (solved .order))
         × (length (take (freeCount (now fixed)) (solved .order)) ≡ freeCount (now fixed)) × (m ≤ length (now sigma)) × (3 * n ≤ length (now diagnostics)) ⌝ }
     ensures { λ _. ⌜ (now (sigma .exit) ≡ filled m (at (filled m (sigmaAt (now (fixed .entry)) (variance (part (now (w .entry)) (2 * n) (2 * n)) n (solved .rank)) (solved .«cov_diag»)) zeros)) (now (sigma .entry)))
-        × (now (diagnostics .exit) ≡ threes n (diagnosticFrom n (solved .rank) (part (now (w .entry)) (2 * n) (2 * n)) (leverageOf (2 * n + 2 * m) (part (now (w .entry)) (8 * n) (freeCount (now (fixed .entry)) * (2 * n + 2 * m))) (take (freeCount (now (fixed .entry))) (solved .order)) (solved .«inv_s»))) ++ drop (3 * n) (now (diagnostics .entry))) ⌝ }
+        × (now (diagnostics .exit) ≡ diagnosticNumbers n (diagnosticFrom n (solved .rank) (part (now (w .entry)) (2 * n) (2 * n)) (leverageOf (2 * n + 2 * m) (part (now (w .entry)) (8 * n) (freeCount (now (fixed .entry)) * (2 * n + 2 * m))) (take (freeCount (now (fixed .entry))) (solved .order)) (solved .«inv_s»))) ++ drop (3 * n) (now (diagnostics .entry))) ⌝ }
 {
     let rows = 2 * n;
     let h = rows + 2 * m;

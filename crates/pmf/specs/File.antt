@@ -1,4 +1,4 @@
--- Where the fields of a file lie, and what they hold (document 01, "The file program"). Definitions only.
+-- Where the fields of a file lie, and what they hold (docs/SCOPE.md 11.1, docs/PMF.md). Definitions only.
 use Prim.Native.Nat.{ℕ, _+_, _*_, _/_, _%_}
 use mathlib.Core.Path.{_≡_}
 use mathlib.Core.Bool.{false, cond}

@@ -1,4 +1,4 @@
--- The file program from bytes to listing (document 01, "The file program"). Definitions only.
+-- The file program from bytes to listing (docs/SCOPE.md 11.2 and 11.3). Definitions only.
 use Prim.Native.Nat.{ℕ, _≤_}
 use mathlib.Core.Path.{_≡_}
 use mathlib.Core.Bool.{Bool, _&&_, _||_, cond}

@@ -1,4 +1,4 @@
-// The file program as a library call: from the bytes of a file to its listing. After document 01, "The file program".
+// The file program as a library call: from the bytes of a file to its listing. After docs/SCOPE.md, section 11.
 
 ghost use mathlib.Core.Path.{_≡_};
 ghost use Prim.Native.Nat.{_+_, _*_, _≤_, _<_};

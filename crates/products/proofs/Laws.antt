@@ -14,7 +14,7 @@ use Rattle.sequence.specs.Sequence.{part, each, Only}
 use Rattle.sequence.proofs.Parts.{apart, length-part, part-sets-same, length-zip, length-zip-part}
 use Rattle.sequence.proofs.Fills.{each-none, each-last, each-next, each-end}
 use Rattle.sequence.proofs.Only.{only-none, only-sets, only-wider, only-then, length-cut, back, back-only, back-part}
-use Rattle.design.specs.Design.{isFree, freeBefore, freeCount, ofFree, weighed, weighing, laid}
+use Rattle.design.specs.Design.{isFree, freeBefore, freeCount, ofFree, weighed, weighing, stacked}
 use Rattle.design.specs.Filled.{Beside}
 use Rattle.products.specs.Products.{Apart}
 use Rattle.design.proofs.Free.{free-none, free-next, taken-next, free-few}
@@ -125,57 +125,57 @@ deepened w w₁ ys a x n h low room p kept e =
       only-then x h w w₁ v (only-wider x n x h w w₁ (omega arith) (omega arith) (p .1)) (only-wider (x + n) (h - n) x h w₁ v (omega arith) (omega arith) only),
     )
 
-laid-snoc : (h : ℕ) (l : List (List Float)) (a : List Float) → laid h (l ++ (a ∷ [])) ≡ laid h l ++ (a ++ replicate (h - length a) #0)
-unfolding laid
-laid-snoc h [] a = append-nil (a ++ replicate (h - length a) #0)
-laid-snoc h (x ∷ l) a =
+stacked-snoc : (h : ℕ) (l : List (List Float)) (a : List Float) → stacked h (l ++ (a ∷ [])) ≡ stacked h l ++ (a ++ replicate (h - length a) #0)
+unfolding stacked
+stacked-snoc h [] a = append-nil (a ++ replicate (h - length a) #0)
+stacked-snoc h (x ∷ l) a =
     let z = x ++ replicate (h - length x) #0 in
-    ap (λ (r : List Float). z ++ r) (laid-snoc h l a) ∙ sym (append-assoc z (laid h l) (a ++ replicate (h - length a) #0))
+    ap (λ (r : List Float). z ++ r) (stacked-snoc h l a) ∙ sym (append-assoc z (stacked h l) (a ++ replicate (h - length a) #0))
 
 module _ (fixed : List ℕ) (a : ℕ → List Float) (c h : ℕ) where
-  -- the columns of the first j terms that are free have been laid in w
+  -- the columns of the first j terms that are free have been stacked in w
   pub record Laid (w₀ w : List Float) (k j : ℕ) : Type 0 where
     pub count : k ≡ freeBefore fixed j
-    pub is : part w c (k * h) ≡ laid h (ofFree fixed a j)
+    pub is : part w c (k * h) ≡ stacked h (ofFree fixed a j)
     pub only : Only c (length fixed * h) w₀ w
 
   of-free-suc : (j : ℕ) → ofFree fixed a (j + 1) ≡ cond (isFree fixed j) (ofFree fixed a j ++ (a j ∷ [])) (ofFree fixed a j)
   unfolding ofFree
   of-free-suc j = rw (add-one j) (each-last j (λ i l. cond (isFree fixed i) (l ++ (a i ∷ [])) l) [])
 
-  pub laid-none : (w : List Float) → Laid w w 0 0
-  unfolding ofFree laid each
-  laid-none w =
+  pub stacked-none : (w : List Float) → Laid w w 0 0
+  unfolding ofFree stacked each
+  stacked-none w =
       let none : 0 * h ≡ 0 = omega arith in
       record { count = free-none fixed; is = ap (λ (i : ℕ). part w c i) none; only = only-none c (length fixed * h) w }
 
-  -- a free term's column of n numbers is laid in the next place
-  pub laid-free : (w₀ w w′ : List Float) (k j n : ℕ) → Laid w₀ w k j → isFree fixed j ≡ true → j < length fixed → length (a j) ≡ n
+  -- a free term's column of n numbers is stacked in the next place
+  pub stacked-free : (w₀ w w′ : List Float) (k j n : ℕ) → Laid w₀ w k j → isFree fixed j ≡ true → j < length fixed → length (a j) ≡ n
       → (part w′ (c + k * h) h ≡ a j ++ replicate (h - n) #0) × Only (c + k * h) h w w′ → Laid w₀ w′ (k + 1) (j + 1)
-  laid-free w₀ w w′ k j n t free low long p =
+  stacked-free w₀ w w′ k j n t free low long p =
       let l = ofFree fixed a j in
-      let e : laid h (ofFree fixed a (j + 1)) ≡ laid h l ++ (a j ++ replicate (h - n) #0) =
-      ap (laid h) (of-free-suc j ∙ ap (λ b. cond b (l ++ (a j ∷ [])) l) free) ∙ laid-snoc h l (a j) ∙ ap (λ (i : ℕ). laid h l ++ (a j ++ replicate (h - i) #0)) long in
+      let e : stacked h (ofFree fixed a (j + 1)) ≡ stacked h l ++ (a j ++ replicate (h - n) #0) =
+      ap (stacked h) (of-free-suc j ∙ ap (λ b. cond b (l ++ (a j ∷ [])) l) free) ∙ stacked-snoc h l (a j) ∙ ap (λ (i : ℕ). stacked h l ++ (a j ++ replicate (h - i) #0)) long in
       let q : (k + 1) * h ≡ k * h + h = omega arith in
       let before : k ≤ j = rw (t .count) (free-few fixed j) in
       let place : k * h + h ≤ length fixed * h = apart k (length fixed) h (omega arith) in
       record {
         count = ap (λ (i : ℕ). i + 1) (t .count) ∙ sym (free-next fixed j free);
-        is = ap (λ (i : ℕ). part w′ c i) q ∙ part-split w′ c (k * h) h ∙ ap (λ (r : List Float). r ++ part w′ (c + k * h) h) (p .1 .below c (k * h) (omega arith) ∙ t .is) ∙ ap (λ (r : List Float). laid h l ++ r) (p .0) ∙ sym e;
+        is = ap (λ (i : ℕ). part w′ c i) q ∙ part-split w′ c (k * h) h ∙ ap (λ (r : List Float). r ++ part w′ (c + k * h) h) (p .1 .below c (k * h) (omega arith) ∙ t .is) ∙ ap (λ (r : List Float). stacked h l ++ r) (p .0) ∙ sym e;
         only = only-then c (length fixed * h) w₀ w w′ (t .only) (only-wider (c + k * h) h c (length fixed * h) w w′ (omega arith) (omega arith) (p .1));
       }
 
   -- a fixed term has no column
-  pub laid-fixed : (w₀ w : List Float) (k j : ℕ) → Laid w₀ w k j → isFree fixed j ≡ false → Laid w₀ w k (j + 1)
-  laid-fixed w₀ w k j t taken =
+  pub stacked-fixed : (w₀ w : List Float) (k j : ℕ) → Laid w₀ w k j → isFree fixed j ≡ false → Laid w₀ w k (j + 1)
+  stacked-fixed w₀ w k j t taken =
       record {
         count = t .count ∙ sym (taken-next fixed j taken);
-        is = t .is ∙ ap (laid h) (sym (of-free-suc j ∙ ap (λ b. cond b (ofFree fixed a j ++ (a j ∷ [])) (ofFree fixed a j)) taken));
+        is = t .is ∙ ap (stacked h) (sym (of-free-suc j ∙ ap (λ b. cond b (ofFree fixed a j ++ (a j ∷ [])) (ofFree fixed a j)) taken));
         only = t .only;
       }
 
-  pub laid-end : (w₀ w : List Float) (k j : ℕ) → j ≡ length fixed → Laid w₀ w k j
-      → (part w c (freeCount fixed * h) ≡ laid h (ofFree fixed a (length fixed))) × Only c (length fixed * h) w₀ w
-  laid-end w₀ w k j e t =
+  pub stacked-end : (w₀ w : List Float) (k j : ℕ) → j ≡ length fixed → Laid w₀ w k j
+      → (part w c (freeCount fixed * h) ≡ stacked h (ofFree fixed a (length fixed))) × Only c (length fixed * h) w₀ w
+  stacked-end w₀ w k j e t =
       let q : freeCount fixed ≡ k = ap (freeBefore fixed) (sym e) ∙ sym (t .count) in
-      (ap (λ (i : ℕ). part w c (i * h)) q ∙ t .is ∙ ap (λ (i : ℕ). laid h (ofFree fixed a i)) e, t .only)
+      (ap (λ (i : ℕ). part w c (i * h)) q ∙ t .is ∙ ap (λ (i : ℕ). stacked h (ofFree fixed a i)) e, t .only)

@@ -10,7 +10,7 @@ ghost use lib.ListN.{length, replicate};
 ghost use lib.Ieee.{Float, binary64, sub, eq};
 ghost use Rattle.float.specs.Float.{#0};
 ghost use Rattle.sequence.specs.Sequence.{at, part, Only};
-ghost use Rattle.design.specs.Design.{termAt, less, plus, subtractAll, product as productOf, predicted, freeProduct, freeCount, ofFree, weighing, laid};
+ghost use Rattle.design.specs.Design.{termAt, less, plus, subtractAll, product as productOf, predicted, freeProduct, freeCount, ofFree, weighing, stacked};
 ghost use Rattle.design.specs.Filled.{columnTo, skyColumnTo, differencesTo};
 ghost use Rattle.products.specs.Products.{Held, Apart, weighedTo};
 use terms::Term;
@@ -325,7 +325,7 @@ pub fn free_columns(
     h: usize,
 )
     requires { ⌜ Held (now names) (now pier) (now sheets) × (length (now fixed) ≤ 32) × (length (now names) ≡ 16 * length (now fixed)) × (2 * length (now pier) ≤ h) × (8 * length (now pier) ≤ c) × (c + length (now fixed) * h ≤ length (now w)) ⌝ }
-    ensures { λ _. ⌜ (part (now (w .exit)) c (freeCount (now (fixed .entry)) * h) ≡ laid h (ofFree (now (fixed .entry)) (weighedTo k (part (now (w .entry)) (6 * length (now (pier .entry))) (2 * length (now (pier .entry)))) «sin_lat» «cos_lat» (now (names .entry)) (now (pier .entry)) (now (sheets .entry))) (length (now (fixed .entry)))))
+    ensures { λ _. ⌜ (part (now (w .exit)) c (freeCount (now (fixed .entry)) * h) ≡ stacked h (ofFree (now (fixed .entry)) (weighedTo k (part (now (w .entry)) (6 * length (now (pier .entry))) (2 * length (now (pier .entry)))) «sin_lat» «cos_lat» (now (names .entry)) (now (pier .entry)) (now (sheets .entry))) (length (now (fixed .entry)))))
         × Only c (length (now (fixed .entry)) * h) (now (w .entry)) (now (w .exit)) ⌝ }
 {
     let mut fi = 0usize;

@@ -13,7 +13,7 @@ use Rattle.linalg.specs.Linalg.{Solved, solved}
 use Rattle.column.specs.Column.{zeros}
 use Rattle.linalg.specs.declared.SolveOutcome.{SolveOutcome}
 use Rattle.solver.specs.Call.{FitInputs}
-use Rattle.design.specs.Design.{freeCount, ofFree, skyDifferences, subtractAll, freeProduct, weighing, laid}
+use Rattle.design.specs.Design.{freeCount, ofFree, skyDifferences, subtractAll, freeProduct, weighing, stacked}
 use Rattle.design.specs.Filled.{skyDifferencesTo}
 use Rattle.design.proofs.Free.{free-few}
 use Rattle.products.specs.Products.{weighedTo}
@@ -25,14 +25,14 @@ use Rattle.single_step.specs.SingleStep.{toFit, step, changeAt, change, 
 abbrev pub unweighed : FitInputs → List Float → ℕ → List Float
 unweighed l b = weighedTo #0 b (l .sinLat) (l .cosLat) (l .names) (l .pier) (l .sheets)
 
--- w is the scratch; it has taken the differences ys, then the contributions were subtracted (w₁), the columns laid (w₂) and the system solved (w₃)
+-- w is the scratch; it has taken the differences ys, then the contributions were subtracted (w₁), the columns stacked (w₂) and the system solved (w₃)
 pub stepped : (l : FitInputs) (w ys w₁ w₂ w₃ : List Float) (free : ℕ) (r : SolveOutcome) → Fits l w → free ≡ freeCount (l .fixed)
     → length ys ≡ length (take (4 * length (l .dh) + 2 * length (l .dh) - 4 * length (l .dh)) (drop (4 * length (l .dh)) w))
     → ys ≡ skyDifferencesTo (l .dh) (l .dd) (l .sheets)
     → (part w₁ (4 * length (l .dh)) (2 * length (l .pier))
     ≡ subtractAll (length (l .coefficients)) (at (l .coefficients)) (skyTo-at l) (part (back w ys (4 * length (l .dh)) (2 * length (l .dh))) (4 * length (l .dh)) (2 * length (l .pier))))
     × Only 0 (4 * length (l .dh) + 2 * length (l .pier)) (back w ys (4 * length (l .dh)) (2 * length (l .dh))) w₁
-    → (part w₂ (8 * length (l .dh)) (freeCount (l .fixed) * heightOf l) ≡ laid (heightOf l) (ofFree (l .fixed) (unweighed l (part w₁ (6 * length (l .pier)) (2 * length (l .pier)))) (length (l .fixed))))
+    → (part w₂ (8 * length (l .dh)) (freeCount (l .fixed) * heightOf l) ≡ stacked (heightOf l) (ofFree (l .fixed) (unweighed l (part w₁ (6 * length (l .pier)) (2 * length (l .pier)))) (length (l .fixed))))
     × Only (8 * length (l .dh)) (length (l .fixed) * heightOf l) w₁ w₂
     → (record { outcome = r; w = part w₃ (8 * length (l .dh)) (free * heightOf l) }
     ≡ solved (heightOf l) (2 * length (l .dh)) free (part w₂ (8 * length (l .dh)) (free * heightOf l)) (part w₂ (4 * length (l .dh)) (2 * length (l .dh))) (l .fitTol))
@@ -53,7 +53,7 @@ stepped l w ys w₁ w₂ w₃ free r f q kept e p₁ p₂ p₃ =
     less ∙ ap (subtractAll (length (l .coefficients)) (at (l .coefficients)) (skyTo-at l)) start ∙ ap (λ a. subtractAll (length (l .coefficients)) (at (l .coefficients)) a (skyDifferences (starsOf l))) (sky-same l same) in
     let fit₂ = p₂ .1 .below (4 * n) (2 * n) (omega arith) ∙ fit₁ in
     let fit₃ = p₃ .1 .below (4 * n) (2 * n) (omega arith) ∙ fit₂ in
-    let cols = p₂ .0 ∙ ap (λ a. laid h (ofFree (l .fixed) a (length (l .fixed)))) (sky-same l same) in
+    let cols = p₂ .0 ∙ ap (λ a. stacked h (ofFree (l .fixed) a (length (l .fixed)))) (sky-same l same) in
     let s = rw q at (p₃ .0) in
     let all = 8 * n + length (l .coefficients) * h in
     let few : free ≤ length (l .coefficients) = rw (q, ← f .fixed-count) (free-few (l .fixed) (length (l .fixed))) in
@@ -63,7 +63,7 @@ stepped l w ys w₁ w₂ w₃ free r f q kept e p₁ p₂ p₃ =
     let o₂ = only-wider (8 * n) (length (l .fixed) * h) 0 all w₁ w₂ (omega arith) (omega (arith, fixed)) (p₂ .1) in
     let o₃ = only-wider (8 * n) (free * h) 0 all w₂ w₃ (omega arith) (omega (arith, mul-le-mul-right h few)) (p₃ .1) in
     let only = only-then 0 all w w₂ w₃ (only-then 0 all w w₁ w₂ (only-then 0 all w b w₁ o₀ o₁) o₂) o₃ in
-    (s ∙ ap (λ a. solved h (2 * n) (freeCount (l .fixed)) a (part w₂ (4 * n) (2 * n)) (l .fitTol)) cols ∙ ap (λ a. solved h (2 * n) (freeCount (l .fixed)) (laid h (ofFree (l .fixed) (skyOf l) (length (l .fixed)))) a (l .fitTol)) fit₂, fit₃, only)
+    (s ∙ ap (λ a. solved h (2 * n) (freeCount (l .fixed)) a (part w₂ (4 * n) (2 * n)) (l .fitTol)) cols ∙ ap (λ a. solved h (2 * n) (freeCount (l .fixed)) (stacked h (ofFree (l .fixed) (skyOf l) (length (l .fixed)))) a (l .fitTol)) fit₂, fit₃, only)
 
 -- ---- the step and its residuals
 

@@ -22,7 +22,7 @@ use Rattle.stats.specs.declared.Sky.{Sky}
 use Rattle.stats.specs.Stats.{skyFrom, variance, sigmaAt}
 use Rattle.design.specs.Design.{freeCount, differences, product}
 use Rattle.design.specs.Filled.{differencesTo}
-use Rattle.outcome.specs.Outcome.{starsOf, cosDecs, heightOf, diagnosticFrom, threes, resultOf, Outcome, outcome, finished, Fits}
+use Rattle.outcome.specs.Outcome.{starsOf, cosDecs, heightOf, diagnosticFrom, diagnosticNumbers, resultOf, Outcome, outcome, finished, Fits}
 use Rattle.outcome.proofs.Laws.{columnTo-at, column-same, differences-same, placed-solved, finishes, answers}
 use Rattle.single_step.specs.SingleStep.{change, newCoefficients, step, freeResiduals, residuals, fitted, decided, fitOutcome, Stepped}
 
@@ -55,7 +55,7 @@ pub whole : (l : FitInputs) (b : Buffers) (w w₂ zs new moved out′ change′ 
     → out′ ≡ filled (length (l .coefficients)) (at new) (b .coefficients)
     → change′ ≡ filled (length (l .coefficients)) (at moved) (b .change)
     → (sigma′ ≡ filled (length (l .coefficients)) (at (filled (length (l .coefficients)) (sigmaAt (l .fixed) (variance (part w (2 * length (l .dh)) (2 * length (l .dh))) (length (l .dh)) (o .rank)) (o .«cov_diag»)) zeros)) (b .sigma))
-    × (diag′ ≡ threes (length (l .dh)) (diagnosticFrom (length (l .dh)) (o .rank) (part w (2 * length (l .dh)) (2 * length (l .dh))) (leverageOf (heightOf l) (part w (8 * length (l .dh)) (freeCount (l .fixed) * heightOf l)) (take (freeCount (l .fixed)) (o .order)) (o .«inv_s»))) ++ drop (3 * length (l .dh)) (b .diagnostics))
+    × (diag′ ≡ diagnosticNumbers (length (l .dh)) (diagnosticFrom (length (l .dh)) (o .rank) (part w (2 * length (l .dh)) (2 * length (l .dh))) (leverageOf (heightOf l) (part w (8 * length (l .dh)) (freeCount (l .fixed) * heightOf l)) (take (freeCount (l .fixed)) (o .order)) (o .«inv_s»))) ++ drop (3 * length (l .dh)) (b .diagnostics))
     → (sky ≡ skyFrom (length (l .pier)) (cosDecs l) free (zipWith (sub binary64) (differencesTo (l .dh) (l .dd)) (product (2 * length (l .pier)) (length (l .coefficients)) (at new) (columnTo-at l))))
     × Only 0 (2 * length (l .pier) + 2 * length (l .pier)) w w₂
     → need ≤ length w₂ → zs ≡ replicate (length (take need w₂)) #0

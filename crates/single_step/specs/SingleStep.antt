@@ -15,7 +15,7 @@ use Rattle.solver.specs.Call.{FitInputs, Buffers, sizesOf}
 use Rattle.validate.specs.Questions.{asked, noOptions}
 use Rattle.validate.specs.declared.Asked.{Asked}
 use Rattle.validate.specs.declared.Asked.the-variants.{Pass, No}
-use Rattle.design.specs.Design.{isFree, freeBefore, freeCount, ofFree, differences, skyDifferences, subtractAll, product, freeProduct, laid}
+use Rattle.design.specs.Design.{isFree, freeBefore, freeCount, ofFree, differences, skyDifferences, subtractAll, product, freeProduct, stacked}
 use Rattle.outcome.specs.Outcome.{starsOf, columnOf, skyOf, rowsOf, heightOf, resultOf, Outcome, outcome, finished}
 
 -- ---- single_step_fit
@@ -27,7 +27,7 @@ toFit l = subtractAll (length (l .coefficients)) (at (l .coefficients)) (skyOf l
 -- solve_and_covariance of the free columns
 unfoldable pub step : FitInputs → Solved
 step l =
-    solved (heightOf l) (rowsOf l) (freeCount (l .fixed)) (laid (heightOf l) (ofFree (l .fixed) (skyOf l) (length (l .fixed)))) (toFit l) (l .fitTol)
+    solved (heightOf l) (rowsOf l) (freeCount (l .fixed)) (stacked (heightOf l) (ofFree (l .fixed) (skyOf l) (length (l .fixed)))) (toFit l) (l .fitTol)
 
 -- a free term's change is its place in x, a fixed term's is 0; in an array
 abbrev pub changeAt : List ℕ → List Float → ℕ → Float

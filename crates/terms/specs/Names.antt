@@ -1,4 +1,4 @@
--- What a name slot is read as: questions 2 and 7 to 10 of document 01, and the names of terms/mod.rs. Definitions only.
+-- What a name slot is read as: questions 2 and 7 to 10 (docs/SCOPE.md 4.1 to 4.3), and the names of terms/mod.rs. Definitions only.
 use Prim.Native.Nat.{ℕ, _+_, _-_, _*_, _/_, _%_}
 use Prim.Native.Char.{code}
 use Prim.Native.String.{String}

@@ -1,4 +1,4 @@
--- The questions of document 01 that a fit is put, in order. Definitions only.
+-- The questions that a fit is put, in the order of docs/SCOPE.md 10.2. Definitions only.
 use Prim.Native.Nat.{ℕ, _+_, _*_, _≤_, _<_}
 use mathlib.Core.Path.{_≡_}
 use mathlib.Core.Bool.{Bool, false, _&&_}

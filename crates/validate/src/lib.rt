@@ -1,4 +1,4 @@
-// The questions that a fit is put before any work is done, in document 01's order. After solver/validate.rs, whose refusals are
+// The questions that a fit is put before any work is done, in the order of docs/SCOPE.md 10.2. After solver/validate.rs, whose refusals are
 // questions 11 to 13.
 
 ghost use mathlib.Core.Path.{_≡_};

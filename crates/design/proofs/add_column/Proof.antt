@@ -7,7 +7,7 @@ use lib.Ieee.{Float}
 use Rattle.float.specs.Float.{_⊕_, _⊗_}
 use Rattle.sequence.specs.Sequence.{at}
 use Rattle.terms.specs.declared.Term.{Term}
-use Rattle.design.specs.Filled.{rowsTo, slopeAt, columnTo}
+use Rattle.design.specs.Filled.{rowsTo, jacobianAt, columnTo}
 use Rattle.design.proofs.Rows.{rows-none, rows-read, rows-step, rows-end, rows-zip}
 use native.Mathlib.Omega.{arith}
 use Rattle.design.proofs.add_column.Statement.{statement}
@@ -26,10 +26,10 @@ flip f (x ∷ xs) (y ∷ ys) = ap (λ r. f y x ∷ r) (flip f xs ys)
 
 -- the two rows of star i
 abbrev hour : Float → List Float → Float → Float → Term → List ℕ → List Float → ℕ → Float
-hour c b sinLat cosLat t pier sheets i = more c (slopeAt sinLat cosLat t pier sheets i .dh) (at b (2 * i))
+hour c b sinLat cosLat t pier sheets i = more c (jacobianAt sinLat cosLat t pier sheets i .dh) (at b (2 * i))
 
 abbrev dec : Float → List Float → Float → Float → Term → List ℕ → List Float → ℕ → Float
-dec c b sinLat cosLat t pier sheets i = more c (slopeAt sinLat cosLat t pier sheets i .dd) (at b (2 * i + 1))
+dec c b sinLat cosLat t pier sheets i = more c (jacobianAt sinLat cosLat t pier sheets i .dd) (at b (2 * i + 1))
 
 abbrev Inv-loop : tie.InvT-loop
 Inv-loop term pier sheets sin-lat cos-lat c b₀ i₀ i-end b i = (i-end ≡ length pier) × (i ≤ i-end) × (length b ≡ length b₀) × (b ≡ rowsTo i (hour c b₀ sin-lat cos-lat term pier sheets) (dec c b₀ sin-lat cos-lat term pier sheets) ++ drop (2 * i) b₀)
@@ -40,8 +40,8 @@ abbrev μ-loop : tie.MeasureT-loop
 loop-holds : tie.Need-loop-holds Inv-loop μ-loop
 loop-holds c = (refl, omega arith, refl, rows-none _ _ _)
 
-slope-at-requires : tie.Need-slope-at-requires Inv-loop μ-loop
-slope-at-requires c κs = omega arith
+jacobian-at-requires : tie.Need-jacobian-at-requires Inv-loop μ-loop
+jacobian-at-requires c κs = omega arith
 
 mul-h : tie.Need-mul-h Inv-loop μ-loop
 mul-h c = omega arith
@@ -100,7 +100,7 @@ loop-again c =
     let g = dec (a .c) (a .b .now) (a .sin-lat) (a .cos-lat) (a .term) (a .pier .now) (a .sheets .now) in
     let h = rows-read f g (u .i) (2 * u .i) (a .b .now) (u .b) (omega arith) (u .inv .3) in
     let d = rows-read f g (u .i) (2 * u .i + 1) (a .b .now) (u .b) (omega arith) (u .inv .3) in
-    (u .inv .0, omega arith, simp length-set (u .inv .2), rows-step f g (u .i) (a .b .now) (u .b) _ _ (omega arith) (u .inv .3) (rw (h, p .slope-at .ensures) refl) (rw (d, p .slope-at .ensures) refl))
+    (u .inv .0, omega arith, simp length-set (u .inv .2), rows-step f g (u .i) (a .b .now) (u .b) _ _ (omega arith) (u .inv .3) (rw (h, p .jacobian-at .ensures) refl) (rw (d, p .jacobian-at .ensures) refl))
 
 same-length : tie.Need-same-length Inv-loop μ-loop
 same-length c = omega arith
@@ -114,7 +114,7 @@ returns c =
     let g = dec (a .c) (a .b .now) (a .sin-lat) (a .cos-lat) (a .term) (a .pier .now) (a .sheets .now) in
     let col = columnTo (a .sin-lat) (a .cos-lat) (a .pier .now) (a .sheets .now) (a .term) in
     rows-end f g (u .i) (length (a .pier .now)) (a .b .now) (u .b) (omega arith) (omega arith) (u .inv .3)
-    ∙ rows-zip (more (a .c)) (λ i. slopeAt (a .sin-lat) (a .cos-lat) (a .term) (a .pier .now) (a .sheets .now) i .dh) (λ i. slopeAt (a .sin-lat) (a .cos-lat) (a .term) (a .pier .now) (a .sheets .now) i .dd) (length (a .pier .now)) (a .b .now) (omega arith)
+    ∙ rows-zip (more (a .c)) (λ i. jacobianAt (a .sin-lat) (a .cos-lat) (a .term) (a .pier .now) (a .sheets .now) i .dh) (λ i. jacobianAt (a .sin-lat) (a .cos-lat) (a .term) (a .pier .now) (a .sheets .now) i .dd) (length (a .pier .now)) (a .b .now) (omega arith)
     ∙ flip (λ y x. y ⊕ x ⊗ a .c) col (a .b .now)
 
 pub add-column-spec : {M : Type 1} → statement M
@@ -124,7 +124,7 @@ add-column-spec =
     Inv-loop
     μ-loop
     loop-holds
-    slope-at-requires
+    jacobian-at-requires
     mul-h
     mul-h-2
     slice-read-h

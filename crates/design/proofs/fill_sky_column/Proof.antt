@@ -8,7 +8,7 @@ use Rattle.float.specs.Float.{_⊗_}
 use Rattle.design.specs.Design.{sheetAt, cosDec}
 use Rattle.observation.specs.declared.Pair.{Pair}
 use Rattle.terms.specs.declared.Term.{Term}
-use Rattle.design.specs.Filled.{rowsTo, slopeAt, skyColumnTo}
+use Rattle.design.specs.Filled.{rowsTo, jacobianAt, skyColumnTo}
 use Rattle.design.proofs.Rows.{rows-none, rows-step, rows-end}
 use native.Mathlib.Omega.{arith}
 use Rattle.design.proofs.fill_sky_column.Statement.{statement}
@@ -16,10 +16,10 @@ use Rattle.design.proofs.fill_sky_column.Tie as tie
 
 -- the two rows of star i
 abbrev hour : Float → Float → Term → List ℕ → List Float → ℕ → Float
-hour sinLat cosLat t pier sheets i = slopeAt sinLat cosLat t pier sheets i .dh ⊗ cosDec (sheetAt sheets i)
+hour sinLat cosLat t pier sheets i = jacobianAt sinLat cosLat t pier sheets i .dh ⊗ cosDec (sheetAt sheets i)
 
 abbrev dec : Float → Float → Term → List ℕ → List Float → ℕ → Float
-dec sinLat cosLat t pier sheets i = slopeAt sinLat cosLat t pier sheets i .dd
+dec sinLat cosLat t pier sheets i = jacobianAt sinLat cosLat t pier sheets i .dd
 
 abbrev Inv-loop : tie.InvT-loop
 Inv-loop term pier sheets sin-lat cos-lat col₀ i₀ i-end col i = (i-end ≡ length pier) × (i ≤ i-end) × (length col ≡ length col₀) × (col ≡ rowsTo i (hour sin-lat cos-lat term pier sheets) (dec sin-lat cos-lat term pier sheets) ++ drop (2 * i) col₀)
@@ -30,8 +30,8 @@ abbrev μ-loop : tie.MeasureT-loop
 loop-holds : tie.Need-loop-holds Inv-loop μ-loop
 loop-holds c = (refl, omega arith, refl, rows-none _ _ _)
 
-slope-at-requires : tie.Need-slope-at-requires Inv-loop μ-loop
-slope-at-requires c κs = omega arith
+jacobian-at-requires : tie.Need-jacobian-at-requires Inv-loop μ-loop
+jacobian-at-requires c κs = omega arith
 
 cos-dec-requires : tie.Need-cos-dec-requires Inv-loop μ-loop
 cos-dec-requires c κs = omega arith
@@ -67,7 +67,7 @@ loop-again : tie.Need-loop-again Inv-loop μ-loop
 loop-again c =
     let u = c .before .before .before .before .loop in
     let a = c .before .before .before .before .before .before .before .before .args in
-    (u .inv .0, omega arith, simp length-set (u .inv .2), rows-step (hour (a .sin-lat) (a .cos-lat) (a .term) (a .pier .now) (a .sheets .now)) (dec (a .sin-lat) (a .cos-lat) (a .term) (a .pier .now) (a .sheets .now)) (u .i) _ (u .col) _ _ (omega arith) (u .inv .3) (rw (c .before .before .slope-at .ensures, c .before .cos-dec .ensures) refl) (ap (λ (p : Pair). p .dd) (c .before .before .slope-at .ensures)))
+    (u .inv .0, omega arith, simp length-set (u .inv .2), rows-step (hour (a .sin-lat) (a .cos-lat) (a .term) (a .pier .now) (a .sheets .now)) (dec (a .sin-lat) (a .cos-lat) (a .term) (a .pier .now) (a .sheets .now)) (u .i) _ (u .col) _ _ (omega arith) (u .inv .3) (rw (c .before .before .jacobian-at .ensures, c .before .cos-dec .ensures) refl) (ap (λ (p : Pair). p .dd) (c .before .before .jacobian-at .ensures)))
 
 same-length : tie.Need-same-length Inv-loop μ-loop
 same-length c = omega arith
@@ -86,7 +86,7 @@ fill-sky-column-spec =
     Inv-loop
     μ-loop
     loop-holds
-    slope-at-requires
+    jacobian-at-requires
     cos-dec-requires
     mul-col
     mul-col-2

@@ -44,13 +44,13 @@ free-columns-requires c κs =
 
 solve-damped-requires : tie.Need-solve-damped-requires
 solve-damped-requires c κs =
-    let laid = c .before .before .before in
+    let stacked = c .before .before .before in
     let weighed = c .before .before .before .before .before .before .before in
     let counted = c .before .before .before .before .before .before .before .before .before in
     let s = c .before .before .before .before .before .before .before .before .before .before .before .before .before .before .before .before .before .before in
     let a = s .args in
-    let long = laid .free-columns .ensures .1 .long ∙ weighed .weighed-residuals .ensures .2 .long in
-    let r = solve-ready (inputs (a .names .now) (a .fixed .now) (a .set .now) (a .dh .now) (a .dd .now) (a .pier .now) (a .sheets .now) (a .sin-lat) (a .cos-lat) (a .fit-tol)) (a .w .now) (laid .free-columns .last .1 .1 .1 .1 .1 .1 .1 .0) (counted .free-count .result) (s .pre .0) long (counted .free-count .ensures) in
+    let long = stacked .free-columns .ensures .1 .long ∙ weighed .weighed-residuals .ensures .2 .long in
+    let r = solve-ready (inputs (a .names .now) (a .fixed .now) (a .set .now) (a .dh .now) (a .dd .now) (a .pier .now) (a .sheets .now) (a .sin-lat) (a .cos-lat) (a .fit-tol)) (a .w .now) (stacked .free-columns .last .1 .1 .1 .1 .1 .1 .1 .0) (counted .free-count .result) (s .pre .0) long (counted .free-count .ensures) in
     (r .0, r .1, omega (arith, r .2), r .3, omega arith)
 
 same-length : tie.Need-same-length
@@ -58,12 +58,12 @@ same-length c = search needs
 
 returns : tie.Need-returns
 returns c =
-    let laid = c .before .before .before .before .before .before in
+    let stacked = c .before .before .before .before .before .before in
     let weighed = c .before .before .before .before .before .before .before .before .before .before in
     let counted = c .before .before .before .before .before .before .before .before .before .before .before .before in
     let s = c .before .before .before .before .before .before .before .before .before .before .before .before .before .before .before .before .before .before .before .before .before in
     let a = s .args in
-    stepped (inputs (a .names .now) (a .fixed .now) (a .set .now) (a .dh .now) (a .dd .now) (a .pier .now) (a .sheets .now) (a .sin-lat) (a .cos-lat) (a .fit-tol)) (a .w .now) (s .pre .0) (weighed .weighed-residuals .last .1 .1 .1 .0) (laid .free-columns .last .1 .1 .1 .1 .1 .1 .1 .0) _ (counted .free-count .result) (a .k) (a .lambda) _ (s .pre .1) (counted .free-count .ensures) (weighed .weighed-residuals .ensures) (laid .free-columns .ensures) (c .before .before .solve-damped .ensures)
+    stepped (inputs (a .names .now) (a .fixed .now) (a .set .now) (a .dh .now) (a .dd .now) (a .pier .now) (a .sheets .now) (a .sin-lat) (a .cos-lat) (a .fit-tol)) (a .w .now) (s .pre .0) (weighed .weighed-residuals .last .1 .1 .1 .0) (stacked .free-columns .last .1 .1 .1 .1 .1 .1 .1 .0) _ (counted .free-count .result) (a .k) (a .lambda) _ (s .pre .1) (counted .free-count .ensures) (weighed .weighed-residuals .ensures) (stacked .free-columns .ensures) (c .before .before .solve-damped .ensures)
 
 pub lm-step-spec : {M : Type 1} → statement M
 lm-step-spec =

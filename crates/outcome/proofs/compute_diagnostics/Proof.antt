@@ -9,8 +9,8 @@ use Rattle.sequence.specs.Sequence.{at}
 use Rattle.solver.specs.declared.ObsDiagnostic.{ObsDiagnostic}
 use Rattle.linalg.specs.Linalg.{leverageOf}
 use Rattle.stats.specs.Stats.{variance, deviation, diagnostic}
-use Rattle.outcome.specs.Outcome.{threes}
-use Rattle.outcome.proofs.Threes.{threes-none, threes-step, threes-end}
+use Rattle.outcome.specs.Outcome.{diagnosticNumbers}
+use Rattle.outcome.proofs.Threes.{diagnosticNumbers-none, diagnosticNumbers-step, diagnosticNumbers-end}
 use Rattle.outcome.proofs.compute_diagnostics.Statement.{statement}
 use Rattle.outcome.proofs.compute_diagnostics.Tie as tie
 
@@ -19,7 +19,7 @@ abbrev diagnostic-at : ℕ → List Float → List ℕ → List Float → List F
 diagnostic-at h u o inv-s r n rank i = diagnostic (deviation r (2 * n) rank) (at r (2 * i)) (at r (2 * i + 1)) (leverageOf h u o inv-s (2 * i)) (leverageOf h u o inv-s (2 * i + 1))
 
 abbrev Inv-loop : tie.InvT-loop
-Inv-loop u h o inv-s r n rank out₀ s i₀ out i = (i ≤ n) × (length out ≡ length out₀) × (s ≡ deviation r (2 * n) rank) × (out ≡ threes i (diagnostic-at h u o inv-s r n rank) ++ drop (3 * i) out₀)
+Inv-loop u h o inv-s r n rank out₀ s i₀ out i = (i ≤ n) × (length out ≡ length out₀) × (s ≡ deviation r (2 * n) rank) × (out ≡ diagnosticNumbers i (diagnostic-at h u o inv-s r n rank) ++ drop (3 * i) out₀)
 
 abbrev μ-loop : tie.MeasureT-loop
 μ-loop u h o inv-s r n rank out₀ s i₀ out i = n - i
@@ -38,7 +38,7 @@ unfolding deviation variance
 deviates c = c .sqrt .ensures ∙ rw (c .before .variance .ensures) refl
 
 loop-holds : tie.Need-loop-holds Inv-loop μ-loop
-loop-holds c = (omega arith, refl, deviates c, threes-none _ _)
+loop-holds c = (omega arith, refl, deviates c, diagnosticNumbers-none _ _)
 
 mul-leverage : tie.Need-mul-leverage Inv-loop μ-loop
 mul-leverage c = omega arith
@@ -124,7 +124,7 @@ loop-again c =
     let first = second .before in
     let u = first .before .before .loop in
     let a = c .before .before .before .before .before .before .before .before .before .before .before .before .before .args in
-    (omega arith, simp length-set (u .inv .1), u .inv .2, threes-step (diagnostic-at (a .h) (a .u .now) (a .o .now) (a .inv-s .now) (a .r .now) (a .n) (a .rank)) (u .i) (a .out .now) (u .out) (c .diagnostic .result) (omega (arith, c .before .before .before .before .before .before .before .before .before .before .before .before .before .pre .4)) (u .inv .3) (c .diagnostic .ensures ∙ rw (second .leverage2 .ensures, first .leverage .ensures, u .inv .2) refl))
+    (omega arith, simp length-set (u .inv .1), u .inv .2, diagnosticNumbers-step (diagnostic-at (a .h) (a .u .now) (a .o .now) (a .inv-s .now) (a .r .now) (a .n) (a .rank)) (u .i) (a .out .now) (u .out) (c .diagnostic .result) (omega (arith, c .before .before .before .before .before .before .before .before .before .before .before .before .before .pre .4)) (u .inv .3) (c .diagnostic .ensures ∙ rw (second .leverage2 .ensures, first .leverage .ensures, u .inv .2) refl))
 
 same-length : tie.Need-same-length Inv-loop μ-loop
 same-length c = omega arith
@@ -133,7 +133,7 @@ returns : tie.Need-returns Inv-loop μ-loop
 returns c =
     let u = c .before .loop in
     let a = c .before .before .before .before .before .before .before .before .args in
-    threes-end (diagnostic-at (a .h) (a .u .now) (a .o .now) (a .inv-s .now) (a .r .now) (a .n) (a .rank)) (u .i) (a .n) (a .out .now) (u .out) (omega arith) (u .inv .3)
+    diagnosticNumbers-end (diagnostic-at (a .h) (a .u .now) (a .o .now) (a .inv-s .now) (a .r .now) (a .n) (a .rank)) (u .i) (a .n) (a .out .now) (u .out) (omega arith) (u .inv .3)
 
 pub compute-diagnostics-spec : {M : Type 1} → statement M
 compute-diagnostics-spec =

@@ -1,4 +1,4 @@
--- `products::free_columns` meets its contract. The invariant: the free ones of the first j columns, k of them, are laid. Assumes nothing.
+-- `products::free_columns` meets its contract. The invariant: the free ones of the first j columns, k of them, are stacked. Assumes nothing.
 use Prim.Native.Nat.{ℕ, _≤_, _-_, _+_, _*_}
 use native.Mathlib.Omega.{arith}
 use mathlib.Core.Path.{_≡_, refl, sym, _∙_}
@@ -14,7 +14,7 @@ use Rattle.design.specs.Filled.{skyColumnTo}
 use Rattle.design.proofs.Free.{free-few}
 use Rattle.design.proofs.Rows.{rows-length}
 use Rattle.products.specs.Products.{weighedTo}
-use Rattle.products.proofs.Laws.{weighing-length, Laid, laid-none, laid-free, laid-fixed, laid-end}
+use Rattle.products.proofs.Laws.{weighing-length, Laid, stacked-none, stacked-free, stacked-fixed, stacked-end}
 use Rattle.products.proofs.free_columns.Statement.{statement}
 use Rattle.products.proofs.free_columns.Tie as tie
 
@@ -44,7 +44,7 @@ abbrev μ-loop : tie.MeasureT-loop
 μ-loop names fixed pier sheets sin-lat cos-lat k w₀ c h fi₀ j₀ j-end w fi j = j-end - j
 
 loop-holds : tie.Need-loop-holds Inv-loop μ-loop
-loop-holds c = let a = c .before .before .before .before .before .args in (refl, omega arith, refl, laid-none (a .fixed .now) (col (a .k) (under (a .w .now) (a .pier .now)) (a .sin-lat) (a .cos-lat) (a .names .now) (a .pier .now) (a .sheets .now)) (a .c) (a .h) (a .w .now))
+loop-holds c = let a = c .before .before .before .before .before .args in (refl, omega arith, refl, stacked-none (a .fixed .now) (col (a .k) (under (a .w .now) (a .pier .now)) (a .sin-lat) (a .cos-lat) (a .names .now) (a .pier .now) (a .sheets .now)) (a .c) (a .h) (a .w .now))
 
 shared-slice-read-if1 : tie.Need-shared-slice-read-if1 Inv-loop μ-loop
 shared-slice-read-if1 c = omega arith
@@ -86,9 +86,9 @@ loop-again c =
           let e = v .2 .ensures in
           let full : length b ≡ 2 * n = length-part (a .w .now) (6 * n) (2 * n) (omega (arith, s .pre .4, s .pre .5)) in
           let long = col-length (a .k) b (a .sin-lat) (a .cos-lat) (a .names .now) (a .pier .now) (a .sheets .now) (u .j) full in
-          (u .inv .0, omega arith, rw (v .5) (e .1 .long ∙ u .inv .2), rw (v .5, v .6) (laid-free (a .fixed .now) f (a .c) (a .h) (a .w .now) (u .w) _ (u .fi) (u .j) (2 * n) (u .inv .3) free (omega arith) long (rw same at (e .0), e .1)))
+          (u .inv .0, omega arith, rw (v .5) (e .1 .long ∙ u .inv .2), rw (v .5, v .6) (stacked-free (a .fixed .now) f (a .c) (a .h) (a .w .now) (u .w) _ (u .fi) (u .j) (2 * n) (u .inv .3) free (omega arith) long (rw same at (e .0), e .1)))
       | inr v ↦
-          (u .inv .0, omega arith, rw (v .1) (u .inv .2), rw (v .1, v .2) (laid-fixed (a .fixed .now) f (a .c) (a .h) (a .w .now) (u .w) (u .fi) (u .j) (u .inv .3) (ne-eqb _ _ (v .0 .left))))
+          (u .inv .0, omega arith, rw (v .1) (u .inv .2), rw (v .1, v .2) (stacked-fixed (a .fixed .now) f (a .c) (a .h) (a .w .now) (u .w) (u .fi) (u .j) (u .inv .3) (ne-eqb _ _ (v .0 .left))))
     ]
 
 same-length : tie.Need-same-length Inv-loop μ-loop
@@ -98,7 +98,7 @@ returns : tie.Need-returns Inv-loop μ-loop
 returns c =
     let u = c .before .loop in
     let a = c .before .before .before .before .before .before .before .args in
-    laid-end (a .fixed .now) (col (a .k) (under (a .w .now) (a .pier .now)) (a .sin-lat) (a .cos-lat) (a .names .now) (a .pier .now) (a .sheets .now)) (a .c) (a .h) (a .w .now) (u .w) (u .fi) (u .j) (omega arith) (u .inv .3)
+    stacked-end (a .fixed .now) (col (a .k) (under (a .w .now) (a .pier .now)) (a .sin-lat) (a .cos-lat) (a .names .now) (a .pier .now) (a .sheets .now)) (a .c) (a .h) (a .w .now) (u .w) (u .fi) (u .j) (omega arith) (u .inv .3)
 
 pub free-columns-spec : {M : Type 1} → statement M
 free-columns-spec =

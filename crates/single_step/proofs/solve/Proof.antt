@@ -69,16 +69,16 @@ free-columns-requires c κs =
 
 solve-and-covariance-requires : tie.Need-solve-and-covariance-requires
 solve-and-covariance-requires c κs =
-    let laid = c .before .before .before in
-    let subtract = laid .before .before .before .before in
+    let stacked = c .before .before .before in
+    let subtract = stacked .before .before .before .before in
     let built = subtract .before .before .before .before in
     let counted = built .before .before in
     let s = counted .before .before .before .before .before .before .before .before .before in
     let a = s .args in
     let n = length (a .dh .now) in
     let first = back-only (a .w .now) (built .build-sky-residuals .last .1 .1 .1 .0) (4 * n) (2 * n) (omega (arith, s .pre .room)) (built .build-sky-residuals .kept .1 .1 .1 .0) in
-    let long = laid .free-columns .ensures .1 .long ∙ subtract .subtract-all-contributions .ensures .1 .long ∙ first .long in
-    let r = solve-ready (inputs (a .names .now) (a .fixed .now) (a .coefficients .now) (a .dh .now) (a .dd .now) (a .pier .now) (a .sheets .now) (a .sin-lat) (a .cos-lat) (a .fit-tol)) (a .w .now) (laid .free-columns .last .1 .1 .1 .1 .1 .1 .1 .0) (counted .free-count .result) (s .pre) long (counted .free-count .ensures) in
+    let long = stacked .free-columns .ensures .1 .long ∙ subtract .subtract-all-contributions .ensures .1 .long ∙ first .long in
+    let r = solve-ready (inputs (a .names .now) (a .fixed .now) (a .coefficients .now) (a .dh .now) (a .dd .now) (a .pier .now) (a .sheets .now) (a .sin-lat) (a .cos-lat) (a .fit-tol)) (a .w .now) (stacked .free-columns .last .1 .1 .1 .1 .1 .1 .1 .0) (counted .free-count .result) (s .pre) long (counted .free-count .ensures) in
     (r .0, r .1, omega (arith, r .2), r .3, omega arith, omega arith)
 
 same-length : tie.Need-same-length
@@ -87,13 +87,13 @@ same-length c = search needs
 returns : tie.Need-returns
 returns c =
     let k = c .before .before in
-    let laid = k .before .before .before .before in
-    let subtract = laid .before .before .before .before in
+    let stacked = k .before .before .before .before in
+    let subtract = stacked .before .before .before .before in
     let built = subtract .before .before .before .before in
     let counted = built .before .before in
     let s = counted .before .before .before .before .before .before .before .before .before in
     let a = s .args in
-    stepped (inputs (a .names .now) (a .fixed .now) (a .coefficients .now) (a .dh .now) (a .dd .now) (a .pier .now) (a .sheets .now) (a .sin-lat) (a .cos-lat) (a .fit-tol)) (a .w .now) (built .build-sky-residuals .last .1 .1 .1 .0) _ _ _ (counted .free-count .result) _ (s .pre) (counted .free-count .ensures) (built .build-sky-residuals .kept .1 .1 .1 .0) (built .build-sky-residuals .ensures) (subtract .subtract-all-contributions .ensures) (laid .free-columns .ensures) (k .solve-and-covariance .ensures)
+    stepped (inputs (a .names .now) (a .fixed .now) (a .coefficients .now) (a .dh .now) (a .dd .now) (a .pier .now) (a .sheets .now) (a .sin-lat) (a .cos-lat) (a .fit-tol)) (a .w .now) (built .build-sky-residuals .last .1 .1 .1 .0) _ _ _ (counted .free-count .result) _ (s .pre) (counted .free-count .ensures) (built .build-sky-residuals .kept .1 .1 .1 .0) (built .build-sky-residuals .ensures) (subtract .subtract-all-contributions .ensures) (stacked .free-columns .ensures) (k .solve-and-covariance .ensures)
 
 pub solve-spec : {M : Type 1} → statement M
 solve-spec =

@@ -1,9 +1,9 @@
--- `design::slope_at` meets its contract. Assumes nothing.
+-- `design::jacobian_at` meets its contract. Assumes nothing.
 use Prim.Native.Nat.{_*_}
 use native.Mathlib.Nat.{add-sub-cancel-left}
 use borrow.Author.Needs.{needs}
-use Rattle.design.proofs.slope_at.Statement.{statement}
-use Rattle.design.proofs.slope_at.Tie as tie
+use Rattle.design.proofs.jacobian_at.Statement.{statement}
+use Rattle.design.proofs.jacobian_at.Tie as tie
 
 mul-a : tie.Need-mul-a
 mul-a c = search needs
@@ -41,8 +41,8 @@ returns c =
     rw (← c .before .before .before .from-code .ensures, ← c .before .before .sign .ensures)
     (rw (add-sub-cancel-left (37 * i) 37) at (c .jacobian-equatorial .ensures))
 
-pub slope-at-spec : {M : Type 1} → statement M
-slope-at-spec =
+pub jacobian-at-spec : {M : Type 1} → statement M
+jacobian-at-spec =
     tie.close
     (tie.spec
     mul-a
