@@ -2,37 +2,11 @@
 //! oracle's on sheets filled by the same libm, at random real angles with the altitude above 5
 //! degrees, and prints for each kind of term how far apart they come. Outside the gate.
 
+use distance::night::sheet;
+use distance::random::Random;
+use distance::terms;
 use oracle::sheet::{Latitude, Sheet};
 use std::f64::consts::{FRAC_PI_2, PI};
-
-extern crate self as bitflags;
-
-#[allow(dead_code)]
-mod error {
-    #[derive(Debug)]
-    pub enum Error {
-        UnknownTerm(String),
-        InvalidHarmonic(String),
-    }
-    pub type Result<T> = std::result::Result<T, Error>;
-}
-
-#[allow(dead_code)]
-#[rustfmt::skip]
-#[path = "../../../docs/src/celestial-pointing/src/terms/mod.rs"]
-mod terms;
-
-/// As much of the `bitflags` crate as docs/src uses.
-#[macro_export]
-macro_rules! bitflags {
-    ($(#[$meta:meta])* pub struct $name:ident: $int:ty { $(const $flag:ident = $value:expr;)* }) => {
-        $(#[$meta])*
-        pub struct $name($int);
-        impl $name {
-            $(pub const $flag: Self = Self($value);)*
-        }
-    };
-}
 
 const POINTS: usize = 100_000;
 
@@ -68,24 +42,6 @@ const NAMES: [&str; 29] = [
     "HSSA",
 ];
 
-/// splitmix64
-struct Random(u64);
-
-impl Random {
-    fn bits(&mut self) -> u64 {
-        self.0 = self.0.wrapping_add(0x9e37_79b9_7f4a_7c15);
-        let mut z = self.0;
-        z = (z ^ (z >> 30)).wrapping_mul(0xbf58_476d_1ce4_e5b9);
-        z = (z ^ (z >> 27)).wrapping_mul(0x94d0_49bb_1331_11eb);
-        z ^ (z >> 31)
-    }
-
-    /// From -1 to 1.
-    fn unit(&mut self) -> f64 {
-        (self.bits() >> 11) as f64 / (1u64 << 52) as f64 - 1.0
-    }
-}
-
 struct Point {
     h: f64,
     dec: f64,
@@ -108,17 +64,6 @@ fn point(random: &mut Random) -> Point {
             return Point { h, dec, lat, pier };
         }
     }
-}
-
-fn sheet(point: &Point) -> Sheet {
-    let mut sheet = [0.0; 37];
-    for k in 0..9 {
-        let (h, dec) = (point.h * (k + 1) as f64, point.dec * (k + 1) as f64);
-        (sheet[2 * k], sheet[2 * k + 1]) = (libm::sin(h), libm::cos(h));
-        (sheet[18 + 2 * k], sheet[19 + 2 * k]) = (libm::sin(dec), libm::cos(dec));
-    }
-    sheet[36] = libm::tan(point.dec);
-    Sheet(sheet)
 }
 
 /// The largest distances seen of one kind of term.
@@ -152,7 +97,10 @@ impl Distance {
 fn main() {
     let random = &mut Random(0x6469_7374);
     let points: Vec<Point> = (0..POINTS).map(|_| point(random)).collect();
-    let sheets: Vec<Sheet> = points.iter().map(sheet).collect();
+    let sheets: Vec<Sheet> = points
+        .iter()
+        .map(|point| Sheet(sheet(point.h, point.dec)))
+        .collect();
     println!("{POINTS} points; distances in units of 1e-16, the relative one to the larger size");
     println!("name       bit-equal pairs     absolute     relative  one side infinite");
     for name in NAMES {
