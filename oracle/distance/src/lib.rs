@@ -1,4 +1,4 @@
-//! The solver, terms and observation of docs/src as published, unchanged, with stand-ins for what else they take in; runs in real angles
+//! The solver, terms, observation and model of docs/src as published, unchanged, with stand-ins for what else they take in; runs in real angles
 //! that fill both them and the oracle; and what their answers are held by. Outside the gate.
 
 // the names by which the published files take in what stands here
@@ -25,6 +25,11 @@ pub mod terms;
 #[rustfmt::skip]
 #[path = "../../../docs/src/celestial-pointing/src/solver/mod.rs"]
 pub mod solver;
+
+#[allow(dead_code)]
+#[rustfmt::skip]
+#[path = "../../../docs/src/celestial-pointing/src/model.rs"]
+pub mod model;
 
 pub mod both;
 pub mod examples;
