@@ -1,20 +1,25 @@
 -- What a call of a fit says of its answer as a C struct. Assumes nothing.
-use mathlib.Core.Path.{_≡_, ap, subst, _∙_}
+use Prim.Native.Nat.{ℕ}
+use mathlib.Core.Path.{_≡_, sym, ap, ap₂, subst, _∙_}
+use lib.ListN.{length, take}
 use Rattle.solver.specs.declared.Fit.{Fit}
+use Rattle.solver.specs.declared.Fit.the-variants.{Done, Refused}
 use Rattle.solver.specs.declared.IterOptions.{IterOptions}
 use Rattle.solver.specs.Call.{FitInputs, Buffers}
 use Rattle.outcome.specs.Outcome.{Outcome, outcome}
 use Rattle.iterated.specs.Iterated.{iteratedOutcome}
-use Rattle.iterated.specs.Demand3.{Demand3}
+use Rattle.iterated.specs.Demand3.{Demand3, BestOfTried}
+use Rattle.iterated.proofs.Outcome.{refusal-not-zero}
 use Rattle.exports.specs.declared.fits.FitAnswer.{FitAnswer}
-use Rattle.exports.specs.Fits.{answerOf}
+use Rattle.exports.specs.Fits.{answerOf, exported, exportedOf, BestWhereGiven}
 
-pub answered : (f : Fit) (left : Buffers) (o : Outcome) (r : FitAnswer) → outcome f left ≡ o → r ≡ answerOf f → (r ≡ answerOf (o .answer)) × (left ≡ o .left)
-answered f left o r p q = (q ∙ ap (λ (x : Outcome). answerOf (x .answer)) p, ap (λ (x : Outcome). x .left) p)
+pub answered : (f : Fit) (left : Buffers) (o : Outcome) (r : FitAnswer) → outcome f left ≡ o → r ≡ answerOf f → exported r left ≡ exportedOf o
+answered f left o r p q = ap (λ (a : FitAnswer). exported a left) q ∙ ap exportedOf p
 
-pub answered-iterated : (l : FitInputs) (o : IterOptions) (b left : Buffers) (f : Fit) (r : FitAnswer)
-    → (outcome f left ≡ iteratedOutcome l o b) × Demand3 l o f (left .coefficients) → r ≡ answerOf f
-    → (r ≡ answerOf (iteratedOutcome l o b .answer)) × (left ≡ iteratedOutcome l o b .left) × Demand3 l o (iteratedOutcome l o b .answer) (left .coefficients)
-answered-iterated l o b left f r s q =
-    let a = answered f left (iteratedOutcome l o b) r (s .0) q in
-    (a .0, a .1, subst (λ (x : Outcome). Demand3 l o (x .answer) (left .coefficients)) (s .0) (s .1))
+-- a struct without a refusal is that of an accepted fit, since no refusal's number is 0
+pub best-where-given : (l : FitInputs) (o : IterOptions) (b left : Buffers) (f : Fit) (r : FitAnswer)
+    → outcome f left ≡ iteratedOutcome l o b → Demand3 l o f (left .coefficients) → r ≡ answerOf f → BestWhereGiven l o r (left .coefficients)
+best-where-given l o b left (Done x) r p d q z =
+    subst (BestOfTried l o (take (length (l .coefficients)) (left .coefficients))) (sym (ap (λ (a : FitAnswer). a .iterations) q)) d
+best-where-given l o b left (Refused k) r p d q z =
+    absurd (refusal-not-zero l o b k (sym (ap (λ (x : Outcome). x .answer) p)) (sym (ap (λ (a : FitAnswer). a .refusal) q) ∙ z))

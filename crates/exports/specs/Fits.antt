@@ -1,10 +1,18 @@
--- A fit's answer as a C struct. Definitions only.
+-- A fit's answer as a C struct, and its outcome as a C call has it. Definitions only.
 use Prim.Native.Nat.{ℕ}
+use mathlib.Core.Path.{_≡_}
+use mathlib.Core.List.{List}
+use lib.ListN.{length, take}
+use lib.Ieee.{Float}
 use mathlib.Core.Bool.{false}
 use Rattle.float.specs.Float.{#0}
 use Rattle.solver.specs.declared.Fit.{Fit}
 use Rattle.solver.specs.declared.Fit.the-variants.{Done, Refused}
 use Rattle.solver.specs.declared.FitResult.{FitResult}
+use Rattle.solver.specs.declared.IterOptions.{IterOptions}
+use Rattle.solver.specs.Call.{FitInputs, Buffers}
+use Rattle.outcome.specs.Outcome.{Outcome}
+use Rattle.iterated.specs.Demand3.{BestOfTried}
 use Rattle.exports.specs.declared.fits.FitAnswer.{FitAnswer}
 
 -- 0 and the result
@@ -44,3 +52,18 @@ refusedAnswer k = record {
 abbrev pub answerOf : Fit → FitAnswer
 answerOf (Done r) = givenAnswer r
 answerOf (Refused k) = refusedAnswer k
+
+-- the struct, and what each buffer holds at the end
+pub record Exported : Type 0 where
+  pub answer : FitAnswer
+  pub left : Buffers
+
+abbrev pub exported : FitAnswer → Buffers → Exported
+exported a b = record { answer = a; left = b }
+
+abbrev pub exportedOf : Outcome → Exported
+exportedOf o = exported (answerOf (o .answer)) (o .left)
+
+-- demand 3 of an accepted call: what the answer's coefficients hold at the end, m of which are the set
+abbrev pub BestWhereGiven : FitInputs → IterOptions → FitAnswer → List Float → Type 0
+BestWhereGiven l o a out = a .refusal ≡ 0 → BestOfTried l o (take (length (l .coefficients)) out) (a .iterations)

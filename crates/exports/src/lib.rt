@@ -11,11 +11,10 @@ ghost use Rattle.model.specs.Correction.{correctionAt, breakdownAt};
 ghost use Rattle.solver.specs.Call.{inputs, buffers};
 ghost use Rattle.single_step.specs.SingleStep.{fitOutcome};
 ghost use Rattle.iterated.specs.Iterated.{iteratedOutcome};
-ghost use Rattle.iterated.specs.Demand3.{Demand3};
 ghost use Rattle.exports.specs.Scratch.{scratchLength};
 ghost use Rattle.exports.specs.Term.{termAnswer};
 ghost use Rattle.exports.specs.Point.{pairAnswer, correctionAnswer};
-ghost use Rattle.exports.specs.Fits.{answerOf};
+ghost use Rattle.exports.specs.Fits.{exported, exportedOf, BestWhereGiven};
 
 mod fits;
 mod point;
@@ -142,8 +141,9 @@ pub extern "C" fn pointing_fit_model(
     diagnostics: &mut [f64],
     scratch: &mut [f64],
 ) -> FitAnswer
-    ensures { λ r. ⌜ (r ≡ answerOf (fitOutcome (inputs (now (names .entry)) (now (fixed .entry)) (now (coefficients .entry)) (now (dh .entry)) (now (dd .entry)) (now (pier .entry)) (now (sheets .entry)) «sin_lat» «cos_lat» «fit_tol») (buffers (now (out .entry)) (now (change .entry)) (now (sigma .entry)) (now (diagnostics .entry)) (now (scratch .entry))) .answer))
-        × (buffers (now (out .exit)) (now (change .exit)) (now (sigma .exit)) (now (diagnostics .exit)) (now (scratch .exit)) ≡ fitOutcome (inputs (now (names .entry)) (now (fixed .entry)) (now (coefficients .entry)) (now (dh .entry)) (now (dd .entry)) (now (pier .entry)) (now (sheets .entry)) «sin_lat» «cos_lat» «fit_tol») (buffers (now (out .entry)) (now (change .entry)) (now (sigma .entry)) (now (diagnostics .entry)) (now (scratch .entry))) .left) ⌝ }
+    ensures { λ r. ⌜ exported r (buffers (now (out .exit)) (now (change .exit)) (now (sigma .exit)) (now (diagnostics .exit)) (now (scratch .exit)))
+        ≡ exportedOf (fitOutcome (inputs (now (names .entry)) (now (fixed .entry)) (now (coefficients .entry)) (now (dh .entry)) (now (dd .entry)) (now (pier .entry)) (now (sheets .entry)) «sin_lat» «cos_lat» «fit_tol»)
+        (buffers (now (out .entry)) (now (change .entry)) (now (sigma .entry)) (now (diagnostics .entry)) (now (scratch .entry)))) ⌝ }
 {
     answer(single_step::fit_model(
         names,
@@ -184,9 +184,11 @@ pub extern "C" fn pointing_fit_model_iterated(
     diagnostics: &mut [f64],
     scratch: &mut [f64],
 ) -> FitAnswer
-    ensures { λ r. ⌜ (r ≡ answerOf (iteratedOutcome (inputs (now (names .entry)) (now (fixed .entry)) (now (coefficients .entry)) (now (dh .entry)) (now (dd .entry)) (now (pier .entry)) (now (sheets .entry)) «sin_lat» «cos_lat» «fit_tol») options (buffers (now (out .entry)) (now (change .entry)) (now (sigma .entry)) (now (diagnostics .entry)) (now (scratch .entry))) .answer))
-        × (buffers (now (out .exit)) (now (change .exit)) (now (sigma .exit)) (now (diagnostics .exit)) (now (scratch .exit)) ≡ iteratedOutcome (inputs (now (names .entry)) (now (fixed .entry)) (now (coefficients .entry)) (now (dh .entry)) (now (dd .entry)) (now (pier .entry)) (now (sheets .entry)) «sin_lat» «cos_lat» «fit_tol») options (buffers (now (out .entry)) (now (change .entry)) (now (sigma .entry)) (now (diagnostics .entry)) (now (scratch .entry))) .left)
-        × Demand3 (inputs (now (names .entry)) (now (fixed .entry)) (now (coefficients .entry)) (now (dh .entry)) (now (dd .entry)) (now (pier .entry)) (now (sheets .entry)) «sin_lat» «cos_lat» «fit_tol») options (iteratedOutcome (inputs (now (names .entry)) (now (fixed .entry)) (now (coefficients .entry)) (now (dh .entry)) (now (dd .entry)) (now (pier .entry)) (now (sheets .entry)) «sin_lat» «cos_lat» «fit_tol») options (buffers (now (out .entry)) (now (change .entry)) (now (sigma .entry)) (now (diagnostics .entry)) (now (scratch .entry))) .answer) (now (out .exit)) ⌝ }
+    ensures whole { λ r. ⌜ exported r (buffers (now (out .exit)) (now (change .exit)) (now (sigma .exit)) (now (diagnostics .exit)) (now (scratch .exit)))
+        ≡ exportedOf (iteratedOutcome (inputs (now (names .entry)) (now (fixed .entry)) (now (coefficients .entry)) (now (dh .entry)) (now (dd .entry)) (now (pier .entry)) (now (sheets .entry)) «sin_lat» «cos_lat» «fit_tol»)
+        options (buffers (now (out .entry)) (now (change .entry)) (now (sigma .entry)) (now (diagnostics .entry)) (now (scratch .entry)))) ⌝ }
+    ensures best { λ r. ⌜ BestWhereGiven (inputs (now (names .entry)) (now (fixed .entry)) (now (coefficients .entry)) (now (dh .entry)) (now (dd .entry)) (now (pier .entry)) (now (sheets .entry)) «sin_lat» «cos_lat» «fit_tol»)
+        options r (now (out .exit)) ⌝ }
 {
     answer(iterated::fit_model_iterated(
         names,

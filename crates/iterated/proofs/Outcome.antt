@@ -27,6 +27,7 @@ use Rattle.stats.specs.Stats.{sumSqSky, rmsOf, sdOf, skyRms, popnSd, skyFrom, v
 use Rattle.design.specs.Design.{freeCount}
 use Rattle.outcome.specs.Outcome.{cosDecs, rowsOf, heightOf, diagnosticFrom, diagnosticNumbers, resultOf, outcome, finished, Fits}
 use Rattle.outcome.proofs.Laws.{placed-solved, finishes, answers}
+use Rattle.outcome.proofs.Refusals.{refusal-has-number}
 use Rattle.lm_system.specs.System.{residuals, chi2Of, huberK, lmStep}
 use Rattle.iterated.specs.declared.LmLoopResult.{LmLoopResult}
 use Rattle.iterated.specs.Iterated.{under, chi2At, proposal, lmLoop, lastStep, lastSet, lastChi2, freeResiduals, change, reported, fitted, decided, iteratedOutcome, Searched}
@@ -124,3 +125,13 @@ pub accepted : (l : FitInputs) (o : IterOptions) (b : Buffers) (out change sigma
 unfolding iteratedOutcome
 accepted l o b out change sigma diag scratch r free a e q w =
     (w ∙ ap (λ z. decided z l o b) (sym e ∙ q), fitted-demand l o b _ r (ready l o (sizesOf b) free a e q .stars) w)
+
+-- the number of a refusal is never 0
+done-is : (l : FitInputs) (o : IterOptions) (b : Buffers) → (r : FitResult) × (fitted l o b .answer ≡ Done r)
+unfolding fitted finished
+done-is l o b = (_, refl)
+
+pub refusal-not-zero : (l : FitInputs) (o : IterOptions) (b : Buffers) (k : ℕ) → iteratedOutcome l o b .answer ≡ Refused k → k ≡ 0 → ⊥
+unfolding iteratedOutcome
+refusal-not-zero l o b =
+    refusal-has-number l o (sizesOf b) (λ a. decided a l o b .answer) (λ free. done-is l o b .0) (λ free. done-is l o b .1) (λ j. refl)

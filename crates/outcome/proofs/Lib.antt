@@ -1,2 +1,3 @@
 pub mod Laws
-pub mod Threes
+pub mod Diagnostics
+pub mod Refusals

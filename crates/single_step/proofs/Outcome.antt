@@ -1,7 +1,7 @@
 -- A call by the answer of its questions, and the parts of an accepted fit. Assumes nothing.
 use Prim.Native.Nat.{ℕ, _+_, _*_, _≤_}
 use native.Mathlib.Omega.{arith}
-use mathlib.Core.Path.{_≡_, sym, ap, _∙_}
+use mathlib.Core.Path.{_≡_, refl, sym, ap, _∙_}
 use mathlib.Core.Bool.{true}
 use mathlib.Core.List.{List, _++_, zipWith}
 use lib.ListN.{length, take, drop, replicate}
@@ -23,6 +23,7 @@ use Rattle.stats.specs.Stats.{skyFrom, variance, sigmaAt}
 use Rattle.design.specs.Design.{freeCount, differences, product}
 use Rattle.design.specs.Filled.{differencesTo}
 use Rattle.outcome.specs.Outcome.{starsOf, cosDecs, heightOf, diagnosticFrom, diagnosticNumbers, resultOf, Outcome, outcome, finished, Fits}
+use Rattle.outcome.proofs.Refusals.{refusal-has-number}
 use Rattle.outcome.proofs.Laws.{columnTo-at, column-same, differences-same, placed-solved, finishes, answers}
 use Rattle.single_step.specs.SingleStep.{change, newCoefficients, step, freeResiduals, residuals, fitted, decided, fitOutcome, Stepped}
 
@@ -82,3 +83,13 @@ whole l b w w₂ zs new moved out′ change′ sigma′ diag′ o free need sky 
     ∙ ap (λ (a : FitResult). finished l b new moved (step l) (freeResiduals l) a) (answers l _ _ o (step l) sky free once ef (st .solution) k₂)
     ∙ ap (λ (x : List Float). finished l b x moved (step l) (freeResiduals l) answer) (st .coefficients)
     ∙ ap (λ (x : List Float). finished l b (newCoefficients l) x (step l) (freeResiduals l) answer) (st .changes)
+
+-- the number of a refusal is never 0
+done-is : (l : FitInputs) (b : Buffers) → (r : FitResult) × (fitted l b .answer ≡ Done r)
+unfolding fitted finished
+done-is l b = (_, refl)
+
+pub refusal-not-zero : (l : FitInputs) (b : Buffers) (k : ℕ) → fitOutcome l b .answer ≡ Refused k → k ≡ 0 → ⊥
+unfolding fitOutcome
+refusal-not-zero l b =
+    refusal-has-number l noOptions (sizesOf b) (λ a. decided a l b .answer) (λ free. done-is l b .0) (λ free. done-is l b .1) (λ j. refl)

@@ -1,13 +1,16 @@
 -- The questions of a fit, put in three parts: a no of one part is that of the whole where the parts before it had none. Assumes nothing.
 use Prim.Native.Nat.{ℕ, _*_}
 use mathlib.Core.Path.{_≡_, refl, sym, _∙_, ap}
-use mathlib.Core.Bool.{cond}
+use mathlib.Core.Bool.{Bool, true, false, cond, false≢true}
 use mathlib.Core.List.{List, [], _++_}
+use borrow.Author.Tests.{eqb-true, eqb-false}
+use lib.Dec.{eqb}
 use lib.ListN.{length}
+use Rattle.sequence.specs.Sequence.{every}
 use Rattle.sequence.proofs.Tests.{both}
 use Rattle.terms.specs.Questions.{Question, noOf}
 use Rattle.terms.specs.Slots.{namesRefusal}
-use Rattle.terms.proofs.Parts.{stops, goes-on, numbered-itself, went-on}
+use Rattle.terms.proofs.Parts.{numbered, stops, goes-on, numbered-itself, went-on}
 use Rattle.design.specs.Design.{freeCount}
 use Rattle.solver.specs.declared.IterOptions.{IterOptions}
 use Rattle.solver.specs.Call.{FitInputs, Sizes}
@@ -15,6 +18,15 @@ use Rattle.validate.specs.Questions.{limits, counts, room, sizesAsked, v
 use Rattle.validate.specs.declared.Asked.{Asked}
 use Rattle.validate.specs.declared.Asked.the-variants.{Pass, No}
 use Rattle.validate.proofs.Laws.{counts-facts}
+
+-- whether an answer is a no, and its number
+abbrev refuses : Asked → Bool
+refuses (Pass free) = false
+refuses (No k) = true
+
+abbrev number : Asked → ℕ
+number (Pass free) = 0
+number (No k) = k
 
 -- lengths that pass have 16 name bytes for each term
 pub named : (m n names fixed dd pier sheets : ℕ) (s : Sizes) → noOf (sizesAsked m n names fixed dd pier sheets s) ≡ 0 → names ≡ 16 * m
@@ -63,3 +75,21 @@ module _ (l : FitInputs) (o : IterOptions) (s : Sizes) where
           ∙ goes-on No pass terms [] (both (numbered-itself (namesRefusal (l .names) (length (l .coefficients)))) refl) (sym e ∙ z)
           ∙ goes-on No pass values terms refl (sym valued ∙ k-yes)
           ∙ goes-on No pass sizes (values ++ terms) refl (sym sized ∙ j-yes)
+
+  -- ---- a refusal's number is never 0
+
+  abbrev all : List Question
+  all = sizes ++ (values ++ terms)
+
+  all-numbered : every numbered all ≡ true
+  all-numbered = both (numbered-itself (namesRefusal (l .names) (length (l .coefficients)))) refl
+
+  pub no-has-number : (k : ℕ) → No k ≡ asked l o s → k ≡ 0 → ⊥
+  unfolding asked
+  no-has-number k e z = by (eqb (noOf all) 0) refl
+    where
+      by : (t : Bool) → eqb (noOf all) 0 ≡ t → ⊥
+      by true q = false≢true (ap refuses (goes-on No pass all [] all-numbered (eqb-true (noOf all) 0 q) ∙ sym e))
+      by false q =
+          let other = eqb-false (noOf all) 0 q in
+          other (ap number (stops No pass all [] other ∙ sym e) ∙ z)

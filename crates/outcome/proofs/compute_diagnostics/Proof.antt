@@ -10,7 +10,7 @@ use Rattle.solver.specs.declared.ObsDiagnostic.{ObsDiagnostic}
 use Rattle.linalg.specs.Linalg.{leverageOf}
 use Rattle.stats.specs.Stats.{variance, deviation, diagnostic}
 use Rattle.outcome.specs.Outcome.{diagnosticNumbers}
-use Rattle.outcome.proofs.Threes.{diagnosticNumbers-none, diagnosticNumbers-step, diagnosticNumbers-end}
+use Rattle.outcome.proofs.Diagnostics.{diagnosticNumbers-none, diagnosticNumbers-step, diagnosticNumbers-end}
 use Rattle.outcome.proofs.compute_diagnostics.Statement.{statement}
 use Rattle.outcome.proofs.compute_diagnostics.Tie as tie
 
