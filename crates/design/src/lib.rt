@@ -78,28 +78,6 @@ pub fn fill_sky_column(
     }
 }
 
-// To b, two numbers a star, the column of a term times c is added.
-pub fn add_column(
-    term: Term,
-    pier: &[u8],
-    sheets: &[f64],
-    sin_lat: f64,
-    cos_lat: f64,
-    c: f64,
-    b: &mut [f64],
-)
-    requires { ⌜ (length (now sheets) ≡ 37 * length (now pier)) × (length (now b) ≡ 2 * length (now pier)) ⌝ }
-    ensures { λ _. ⌜ now (b .exit) ≡ plus c (now (b .entry)) (columnTo «sin_lat» «cos_lat» (now (pier .entry)) (now (sheets .entry)) term) ⌝ }
-{
-    for i in 0..pier.len() {
-        let p = jacobian_at(term, pier, sheets, sin_lat, cos_lat, i);
-        let h = b[2 * i] + p.dh * c;
-        let d = b[2 * i + 1] + p.dd * c;
-        b[2 * i] = h;
-        b[2 * i + 1] = d;
-    }
-}
-
 // The raw differences, two a star, with the hour-angle rows times cos dec.
 pub fn build_sky_residuals(dh: &[f64], dd: &[f64], sheets: &[f64], b: &mut [f64])
     requires { ⌜ (length (now dd) ≡ length (now dh)) × (length (now sheets) ≡ 37 * length (now dh)) × (length (now b) ≡ 2 * length (now dh)) ⌝ }

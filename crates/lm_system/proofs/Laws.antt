@@ -1,9 +1,9 @@
 -- What the residuals under a set and the step of a trial leave in scratch. Assumes nothing.
-use Prim.Native.Nat.{ℕ, _+_, _-_, _*_, _≤_}
+use Prim.Native.Nat.{ℕ, _+_, _-_, _*_, _≤_, _<_}
 use native.Mathlib.Nat.{mul-le-mul-right, add-sub-cancel-left}
 use native.Mathlib.Omega.{arith}
-use mathlib.Core.Path.{_≡_, sym, ap, _∙_}
-use mathlib.Core.List.{List, zipWith}
+use mathlib.Core.Path.{_≡_, refl, sym, ap, _∙_, subst}
+use mathlib.Core.List.{List, _++_, zipWith}
 use lib.ListN.{length, take, drop}
 use lib.Seq.{sets}
 use lib.Ieee.{Float, binary64, sub}
@@ -12,7 +12,7 @@ use Rattle.sequence.proofs.Parts.{length-part, part-sets-same}
 use Rattle.sequence.proofs.Only.{only-sets, only-wider, only-then, back, back-only, back-part}
 use Rattle.best.specs.ChiSquare.{chi}
 use Rattle.linalg.specs.declared.SolveOutcome.{SolveOutcome}
-use Rattle.linalg.specs.Linalg.{solvedDamped}
+use Rattle.linalg.specs.Linalg.{Solved, solvedDamped}
 use Rattle.solver.specs.Call.{FitInputs}
 use Rattle.design.specs.Design.{differences, predicted, freeCount, ofFree, weighing, stacked}
 use Rattle.design.specs.Filled.{differencesTo, skyRows}
@@ -20,8 +20,8 @@ use Rattle.design.proofs.Free.{free-few}
 use Rattle.products.specs.Products.{weighedTo}
 use Rattle.products.proofs.Laws.{weighing-length}
 use Rattle.stats.specs.Stats.{sumSqSky}
-use Rattle.outcome.specs.Outcome.{starsOf, cosDecs, heightOf, Fits}
-use Rattle.outcome.proofs.Laws.{columnTo-at, skyTo-at, column-same, sky-same, differences-same}
+use Rattle.outcome.specs.Outcome.{starsOf, cosDecs, columnOf, skyOf, heightOf, Fits}
+use Rattle.outcome.proofs.Laws.{columnTo-at, skyTo-at, column-same, sky-same, differences-same, less-differences}
 use Rattle.lm_system.specs.System.{residuals, chi2Of, skyResiduals, weighedResiduals, weighedColumn, lmStep, Left, LmStepped}
 
 -- ---- n stars' residuals at 2·n, copied to 4·n (w₁), where they come back as ys on the sky; copied to 6·n (w₂) and weighed at 4·n (w₃)
@@ -71,21 +71,24 @@ weighed-both n cosDecs k w w₁ ys w₂ w₃ room e₁ kept e e₂ e₃ =
 -- ---- the residuals under a set: w₁ after the prediction, ys what comes back from the differences
 
 module _ (l : FitInputs) (w : List Float) (f : Fits l w) where
-  pub under-state : (ys : List Float)
-      → length ys ≡ length (take (2 * length (l .dh) + 2 * length (l .dh) - 2 * length (l .dh)) (drop (2 * length (l .dh)) w))
-      → ys ≡ zipWith (sub binary64) (differencesTo (l .dh) (l .dd)) (predicted (2 * length (l .pier)) (length (l .coefficients)) (at (l .coefficients)) (columnTo-at l))
-      → (part (back w ys (2 * length (l .dh)) (2 * length (l .dh))) (2 * length (l .dh)) (2 * length (l .dh)) ≡ residuals l)
-      × Only 0 (4 * length (l .dh)) w (back w ys (2 * length (l .dh)) (2 * length (l .dh)))
+  pub under-state : (w₁ ys : List Float)
+      → (part w₁ (2 * length (l .dh)) (2 * length (l .pier)) ≡ predicted (2 * length (l .pier)) (length (l .coefficients)) (at (l .coefficients)) (columnTo-at l))
+      × Only 0 (2 * length (l .dh) + 2 * length (l .pier)) w w₁
+      → length ys ≡ length (take (2 * length (l .dh) + 2 * length (l .dh) - 2 * length (l .dh)) (drop (2 * length (l .dh)) w₁))
+      → ys ≡ zipWith (sub binary64) (differencesTo (l .dh) (l .dd)) (take (2 * length (l .dh) + 2 * length (l .dh) - 2 * length (l .dh)) (drop (2 * length (l .dh)) w₁))
+      → (part (back w₁ ys (2 * length (l .dh)) (2 * length (l .dh))) (2 * length (l .dh)) (2 * length (l .dh)) ≡ residuals l)
+      × Only 0 (4 * length (l .dh)) w (back w₁ ys (2 * length (l .dh)) (2 * length (l .dh)))
   unfolding residuals
-  under-state ys kept e =
+  under-state w₁ ys p kept e =
       let n = length (l .dh) in
       let m = length (l .coefficients) in
       let same = f .pier-count in
-      let room : 2 * n + 2 * n ≤ length w = omega (arith, f .room) in
-      let q : ys ≡ zipWith (sub binary64) (differencesTo (l .dh) (l .dd)) (predicted (2 * n) m (at (l .coefficients)) (columnTo-at l)) = rw same at e in (
-        back-part w ys (2 * n) (2 * n) room kept ∙ q ∙ ap (λ (d : List Float). zipWith (sub binary64) d (predicted (2 * n) m (at (l .coefficients)) (columnTo-at l))) (differences-same l)
+      let q : (part w₁ (2 * n) (2 * n) ≡ predicted (2 * n) m (at (l .coefficients)) (columnTo-at l)) × Only 0 (2 * n + 2 * n) w w₁ = rw same at p in
+      let t = less-differences (sub binary64) w w₁ ys (differencesTo (l .dh) (l .dd)) _ (2 * n) (2 * n) (omega (arith, f .room)) q kept e in
+      let four : 2 * n + 2 * n ≡ 4 * n = omega arith in (
+        t .0 ∙ ap (λ (d : List Float). zipWith (sub binary64) d (predicted (2 * n) m (at (l .coefficients)) (columnTo-at l))) (differences-same l)
             ∙ ap (λ a. zipWith (sub binary64) (differences (starsOf l)) (predicted (2 * n) m (at (l .coefficients)) a)) (column-same l same),
-        only-wider (2 * n) (2 * n) 0 (4 * n) w (back w ys (2 * n) (2 * n)) (omega arith) (omega arith) (back-only w ys (2 * n) (2 * n) room kept),
+        subst (λ (k : ℕ). Only 0 k w (back w₁ ys (2 * n) (2 * n))) four (t .1),
       )
 
   -- their chi-square

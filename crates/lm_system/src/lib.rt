@@ -39,17 +39,8 @@ pub fn residuals_under_state(
         × Only 0 (4 * length (l .dh)) (now (w .entry)) (now (w .exit)) ⌝ }
 {
     let rows = 2 * dh.len();
-    products::residuals_into(
-        names,
-        dh,
-        dd,
-        pier,
-        sheets,
-        sin_lat,
-        cos_lat,
-        set,
-        &mut w[rows..rows + rows],
-    );
+    products::predict(names, pier, sheets, sin_lat, cos_lat, set, w, rows);
+    design::subtract_from_differences(dh, dd, &mut w[rows..rows + rows]);
 }
 
 // The chi-square of a set, whose residuals it leaves at 2·n.

@@ -4,14 +4,14 @@
 
 ghost use mathlib.Core.Path.{_≡_};
 ghost use mathlib.Core.Bool.{cond};
-ghost use mathlib.Core.List.{List, _++_, zipWith};
-ghost use Prim.Native.Nat.{ℕ, _+_, _-_, _*_, _≤_};
+ghost use mathlib.Core.List.{_++_};
+ghost use Prim.Native.Nat.{_+_, _-_, _*_, _≤_};
 ghost use lib.ListN.{length, replicate};
-ghost use lib.Ieee.{Float, binary64, sub, eq};
+ghost use lib.Ieee.{eq};
 ghost use Rattle.float.specs.Float.{#0};
 ghost use Rattle.sequence.specs.Sequence.{at, part, Only};
 ghost use Rattle.design.specs.Design.{termAt, less, plus, subtractAll, product as productOf, predicted, freeProduct, freeCount, ofFree, weighing, stacked};
-ghost use Rattle.design.specs.Filled.{columnTo, skyColumnTo, differencesTo};
+ghost use Rattle.design.specs.Filled.{columnTo, skyColumnTo};
 ghost use Rattle.products.specs.Products.{Held, Apart, weighedTo};
 use terms::Term;
 
@@ -218,8 +218,8 @@ pub fn product(
     }
 }
 
-// To b, the column of term j times c is added, unless c is 0.
-fn add_unless_zero(
+// To what lies at y, the column of term j times c is added, unless c is 0.
+fn predict_term(
     names: &[u8],
     pier: &[u8],
     sheets: &[f64],
@@ -227,21 +227,20 @@ fn add_unless_zero(
     cos_lat: f64,
     j: usize,
     c: f64,
-    b: &mut [f64],
+    w: &mut [f64],
+    y: usize,
 )
-    ghost { ℕ → List Float }
-    requires { λ a. ⌜ (λ i. columnTo «sin_lat» «cos_lat» (now pier) (now sheets) (termAt (now names) i)) ≡ a ⌝ }
-    requires { λ a. ⌜ Held (now names) (now pier) (now sheets) × (16 * j + 16 ≤ length (now names)) × (length (now b) ≡ 2 * length (now pier)) ⌝ }
-    ensures { λ a _. ⌜ now (b .exit) ≡ cond (eq c #0) (now (b .entry)) (plus c (now (b .entry)) (a j)) ⌝ }
+    requires { ⌜ Held (now names) (now pier) (now sheets) × (16 * j + 16 ≤ length (now names)) × (2 * length (now pier) ≤ y) × (y + 2 * length (now pier) ≤ length (now w)) ⌝ }
+    ensures { λ _. ⌜ (part (now (w .exit)) y (2 * length (now (pier .entry))) ≡ cond (eq c #0) (part (now (w .entry)) y (2 * length (now (pier .entry)))) (plus c (part (now (w .entry)) y (2 * length (now (pier .entry)))) (columnTo «sin_lat» «cos_lat» (now (pier .entry)) (now (sheets .entry)) (termAt (now (names .entry)) j))))
+        × Only 0 (y + 2 * length (now (pier .entry))) (now (w .entry)) (now (w .exit)) ⌝ }
 {
     if c == 0.0 {
         return;
     }
-    let t = term_at(names, j);
-    design::add_column(t, pier, sheets, sin_lat, cos_lat, c, b);
+    add_term(names, pier, sheets, sin_lat, cos_lat, j, c, w, y);
 }
 
-// What a set predicts, two numbers a star: a coefficient that is 0 is skipped.
+// At y, the product of all columns with a set of coefficients, where one that is 0 is skipped.
 pub fn predict(
     names: &[u8],
     pier: &[u8],
@@ -249,37 +248,19 @@ pub fn predict(
     sin_lat: f64,
     cos_lat: f64,
     set: &[f64],
-    b: &mut [f64],
+    w: &mut [f64],
+    y: usize,
 )
-    ghost { ℕ → List Float }
-    requires { λ a. ⌜ (λ i. columnTo «sin_lat» «cos_lat» (now pier) (now sheets) (termAt (now names) i)) ≡ a ⌝ }
-    requires { λ a. ⌜ Held (now names) (now pier) (now sheets) × (length (now names) ≡ 16 * length (now set)) × (length (now b) ≡ 2 * length (now pier)) ⌝ }
-    ensures { λ a _. ⌜ now (b .exit) ≡ predicted (2 * length (now (pier .entry))) (length (now (set .entry))) (at (now (set .entry))) a ⌝ }
+    requires { ⌜ Held (now names) (now pier) (now sheets) × (length (now names) ≡ 16 * length (now set)) × (2 * length (now pier) ≤ y) × (y + 2 * length (now pier) ≤ length (now w)) ⌝ }
+    ensures { λ _. ⌜ (part (now (w .exit)) y (2 * length (now (pier .entry))) ≡ predicted (2 * length (now (pier .entry))) (length (now (set .entry))) (at (now (set .entry))) (λ j. columnTo «sin_lat» «cos_lat» (now (pier .entry)) (now (sheets .entry)) (termAt (now (names .entry)) j)))
+        × Only 0 (y + 2 * length (now (pier .entry))) (now (w .entry)) (now (w .exit)) ⌝ }
 {
-    sequence::fill(b, 0.0);
+    let n = 2 * pier.len();
+    sequence::fill(&mut w[y..y + n], 0.0);
     for j in 0..set.len() {
         let c = set[j];
-        add_unless_zero(names, pier, sheets, sin_lat, cos_lat, j, c, b);
+        predict_term(names, pier, sheets, sin_lat, cos_lat, j, c, w, y);
     }
-}
-
-// The raw differences less what a set predicts, two numbers a star.
-pub fn residuals_into(
-    names: &[u8],
-    dh: &[f64],
-    dd: &[f64],
-    pier: &[u8],
-    sheets: &[f64],
-    sin_lat: f64,
-    cos_lat: f64,
-    set: &[f64],
-    r: &mut [f64],
-)
-    requires { ⌜ Held (now names) (now pier) (now sheets) × (length (now names) ≡ 16 * length (now set)) × (length (now dd) ≡ length (now dh)) × (length (now pier) ≡ length (now dh)) × (length (now r) ≡ 2 * length (now dh)) ⌝ }
-    ensures { λ _. ⌜ now (r .exit) ≡ zipWith (sub binary64) (differencesTo (now (dh .entry)) (now (dd .entry))) (predicted (2 * length (now (pier .entry))) (length (now (set .entry))) (at (now (set .entry))) (λ j. columnTo «sin_lat» «cos_lat» (now (pier .entry)) (now (sheets .entry)) (termAt (now (names .entry)) j))) ⌝ }
-{
-    predict(names, pier, sheets, sin_lat, cos_lat, set, r);
-    design::subtract_from_differences(dh, dd, r);
 }
 
 // At y, the product of the free sky columns, weighed, with x.
