@@ -1,5 +1,6 @@
 //! One run fitted by the published code and by the oracle, and the answers in one form.
 
+use crate::error::Result;
 use crate::night::Night;
 use crate::observation::Observation;
 use crate::solver;
@@ -59,7 +60,7 @@ pub struct Published<'a> {
     night: &'a Night,
     observations: Vec<Observation>,
     terms: Vec<Box<dyn Term>>,
-    parallel: Vec<bool>,
+    pub parallel: Vec<bool>,
 }
 
 impl<'a> Published<'a> {
@@ -72,8 +73,12 @@ impl<'a> Published<'a> {
         }
     }
 
-    /// The published fit: with options the iterated one.
+    /// The published fit of a run that it accepts: with options the iterated one.
     pub fn fit(&self, options: Option<&IterOptions>) -> Answer {
+        self.try_fit(options).expect("an accepted run")
+    }
+
+    pub fn try_fit(&self, options: Option<&IterOptions>) -> Result<Answer> {
         let observations: Vec<&Observation> = self.observations.iter().collect();
         let inputs = solver::FitInputs {
             observations: &observations,
@@ -95,7 +100,7 @@ impl<'a> Published<'a> {
             ),
             Some(o) => solver::fit_model_iterated(&inputs, &published_options(o)),
         };
-        answer!(fit.expect("an accepted run"))
+        fit.map(|fit| answer!(fit))
     }
 }
 
