@@ -1,4 +1,4 @@
-//! The plain Rust of `solver/linalg.rs` with document 01's substitutions: sums from 0 in rising
+//! The plain Rust of `solver/linalg.rs` with the substitutions of docs/SCOPE.md 6.1 to 6.3: sums from 0 in rising
 //! index, and one-sided Jacobi in place of nalgebra's singular value decomposition.
 
 /// A matrix by its columns.

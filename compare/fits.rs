@@ -118,7 +118,7 @@ pub const REGIMES: [Regime; 37] = [
 ];
 
 /// Each regime of `listed`, which each run makes once.
-pub const LISTED: [&str; 3] = ["document 01", "tolerance at the step", "limits"];
+pub const LISTED: [&str; 3] = ["worked cases", "tolerance at the step", "limits"];
 pub const LISTED_SINGLE: [&str; 2] = [LISTED[0], LISTED[2]];
 
 pub fn asked(mode: u8) -> &'static [u8] {
@@ -203,7 +203,7 @@ fn long(maker: &mut Maker, mode: u8) -> Case {
     case
 }
 
-/// The cases that a run makes once: document 01's, tolerances at a step's norm, and the limits of m and n.
+/// The cases that a run makes once: those of docs/SCOPE.md 12.1, tolerances at a step's norm, and the limits of m and n.
 pub fn listed(maker: &mut Maker) -> Vec<(&'static str, Case)> {
     let (mut documented, mut at_tolerance, mut limits) = (Vec::new(), Vec::new(), Vec::new());
     iterated::documented(&mut documented);

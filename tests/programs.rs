@@ -250,7 +250,7 @@ fn far_above(held: &mut Held, longest: &[u8]) -> Result<(), String> {
     let heads: [(&str, &[u8]); 5] = [
         ("zeros", &[]),
         ("the header of a file", &short[..9]),
-        ("document 01's file", &short),
+        ("the file of docs/SCOPE.md 11.3.5", &short),
         ("the header of 17 terms", &terms),
         ("the longest file", longest),
     ];

@@ -1,4 +1,4 @@
-//! The refusals of document 01 in words, with what to do about each.
+//! The refusals of docs/SCOPE.md 10.1 in words, with what to do about each.
 
 use crate::pmf;
 use crate::run::{Run, Star};

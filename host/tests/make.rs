@@ -26,11 +26,11 @@ fn assert_same(made: &[u8], stored: &[u8]) {
 }
 
 #[test]
-fn document_01_byte_for_byte() {
+fn the_file_case_byte_for_byte() {
     let made = run("pmf-make", &[&path("document-01.csv")], b"");
     assert_eq!((code(&made), err(&made).as_str()), (0, ""));
     assert_eq!(made.stdout, bytes("document-01.pmf"));
-    // by document 01's words, not by pmf-make's
+    // by docs/SCOPE.md 11.3.5, not by pmf-make
     let mut expected = b"PMF\x01\x00\x01\x00\x01\x00".to_vec();
     for x in [0.0, 1.0, 0.0, 1e-6, 1e-3, 10.0, 10.0, 1.345f64] {
         expected.extend(x.to_le_bytes());

@@ -1,7 +1,8 @@
-//! The Rust of docs/src with exactly document 01's substitutions, each marked `// document 01: ..`.
-//! File by file beside docs/src: `terms`, `observation`, `solver`, `model`. The others stand for
-//! what the source takes from its libraries, or hold document 01's calls and file program;
-//! `vectors` makes the stored answers and random calls.
+//! The Rust of docs/src with exactly the substitutions of docs/SCOPE.md, each marked
+//! `// docs/SCOPE.md ..` with its paragraph. File by file beside docs/src: `terms`, `observation`,
+//! `solver`, `model`. The others stand for what the source takes from its libraries, or hold the
+//! calls (docs/SCOPE.md 10) and the file program (11); `vectors` makes the stored answers and random
+//! calls.
 
 #![allow(clippy::needless_range_loop, clippy::neg_cmp_op_on_partial_ord)]
 

@@ -1,5 +1,5 @@
 //! The part of nalgebra that the solver uses.
-//! document 01: norms, dots and matrix products are sums from 0 in rising index.
+//! docs/SCOPE.md 6.1: norms, dots and matrix products are sums from 0 in rising index.
 
 use std::ops::{Index, IndexMut, Mul, Sub};
 

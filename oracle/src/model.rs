@@ -29,7 +29,7 @@ impl PointingModel {
         if self.terms.iter().any(|t| t.name() == term.name()) {
             return Ok(());
         }
-        // document 01: a new name finds fewer than 32 terms, or 14
+        // docs/SCOPE.md 10.1.14: a new name finds fewer than 32 terms, or 14
         if self.terms.len() >= 32 {
             return Err(14);
         }
@@ -56,7 +56,7 @@ impl PointingModel {
 
     pub fn set_coefficients(&mut self, coeffs: &[f64]) -> Result<()> {
         if coeffs.len() != self.terms.len() {
-            // document 01: another number of coefficients is 2
+            // docs/SCOPE.md 10.1.2: another number of coefficients is 2
             return Err(2);
         }
         self.coefficients.copy_from_slice(coeffs);

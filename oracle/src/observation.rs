@@ -1,4 +1,4 @@
-//! docs/src observation.rs: `PierSide::sign`, and of an observation what document 01 lends.
+//! docs/src observation.rs: `PierSide::sign`, and of an observation what docs/SCOPE.md 3 lends.
 
 use crate::sheet::Sheet;
 
@@ -10,7 +10,7 @@ pub enum PierSide {
 }
 
 impl PierSide {
-    /// document 01: code 0 Unknown, 1 East, 2 West; another code is 5.
+    /// docs/SCOPE.md 3.2.2: code 0 Unknown, 1 East, 2 West; another code is 5.
     pub fn from_code(code: u8) -> Option<Self> {
         match code {
             0 => Some(Self::Unknown),
@@ -31,11 +31,11 @@ impl PierSide {
 
 #[derive(Debug, Clone)]
 pub struct Observation {
-    // document 01: the raw difference actual_ha - commanded_ha in arcseconds is lent
+    // docs/SCOPE.md 3.2.1: the raw difference actual_ha - commanded_ha in arcseconds is lent
     pub raw_dh: f64,
-    // document 01: the raw difference observed_dec - catalog_dec in arcseconds is lent
+    // docs/SCOPE.md 3.2.1: the raw difference observed_dec - catalog_dec in arcseconds is lent
     pub raw_dd: f64,
     pub pier_side: PierSide,
-    // document 01: the sheet stands for commanded_ha and catalog_dec
+    // docs/SCOPE.md 3.1: the sheet stands for commanded_ha and catalog_dec
     pub sheet: Sheet,
 }

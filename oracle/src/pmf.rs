@@ -1,4 +1,4 @@
-//! document 01, "The file program": a PMF file in, its listing out.
+//! docs/SCOPE.md 11: a PMF file in, its listing out.
 
 use crate::error::Result;
 use crate::questions::{fit_file, Run};

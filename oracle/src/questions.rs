@@ -1,5 +1,5 @@
-//! document 01, "Questions, in order": the public calls. A "no" gives the number and nothing else,
-//! and no lent byte changes.
+//! docs/SCOPE.md 10: the public calls. A "no" gives the number and nothing else, and no lent byte
+//! changes.
 
 use crate::error::Result;
 use crate::model::PointingModel;

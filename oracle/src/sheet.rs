@@ -2,7 +2,7 @@
 
 pub const SHEET: usize = 37;
 
-/// document 01: sin and cos of k·h for k = 1 to 9, the same for k·dec, then tan dec.
+/// docs/SCOPE.md 3.1: sin and cos of k·h for k = 1 to 9, the same for k·dec, then tan dec.
 #[derive(Debug, Clone, Copy)]
 pub struct Sheet(pub [f64; SHEET]);
 
@@ -35,7 +35,7 @@ impl Sheet {
     }
 }
 
-/// document 01: sin and cos of the latitude are lent once.
+/// docs/SCOPE.md 3.2.3: sin and cos of the latitude are lent once.
 #[derive(Debug, Clone, Copy)]
 pub struct Latitude {
     pub sin: f64,

@@ -1,4 +1,4 @@
-//! document 01: the singular value decomposition is one-sided Jacobi (Golub and Van Loan).
+//! docs/SCOPE.md 6.2, 6.3: the singular value decomposition is one-sided Jacobi (Golub and Van Loan).
 
 use crate::matrix::{DMatrix, DVector};
 

@@ -1,4 +1,4 @@
-//! document 01, "Readings and fits".
+//! docs/SCOPE.md 12.1.
 
 use oracle::pmf::{file, file_size, listing};
 use oracle::questions::*;

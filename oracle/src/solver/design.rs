@@ -1,4 +1,5 @@
-//! docs/src solver/design.rs. document 01: cos dec and the Jacobians are read from the lent sheets.
+//! docs/src solver/design.rs. docs/SCOPE.md 3.1: cos dec and the Jacobians are read from the lent
+//! sheets.
 
 use crate::matrix::{DMatrix, DVector};
 use crate::observation::Observation;
@@ -9,7 +10,7 @@ pub(crate) fn build_residuals(observations: &[&Observation]) -> DVector {
     let n = observations.len();
     let mut b = DVector::zeros(2 * n);
     for (i, obs) in observations.iter().enumerate() {
-        // document 01: the raw differences are lent
+        // docs/SCOPE.md 3.2: the raw differences are lent
         b[2 * i] = obs.raw_dh;
         b[2 * i + 1] = obs.raw_dd;
     }
@@ -36,7 +37,7 @@ pub(super) fn build_design_matrix(
 }
 
 pub(super) fn cos_dec_per_obs(observations: &[&Observation]) -> Vec<f64> {
-    // document 01: read from the lent sheet
+    // docs/SCOPE.md 3.1: read from the lent sheet
     observations.iter().map(|o| o.sheet.cos_dec(1)).collect()
 }
 

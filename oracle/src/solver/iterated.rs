@@ -234,7 +234,7 @@ fn residuals_under_state(
             dh_pred += jh * state[j];
             dd_pred += jd * state[j];
         }
-        // document 01: the raw differences are lent
+        // docs/SCOPE.md 3.2: the raw differences are lent
         let raw_dh = obs.raw_dh;
         let raw_dd = obs.raw_dd;
         b[2 * i] = raw_dh - dh_pred;

@@ -1,4 +1,4 @@
-//! docs/src solver/linalg.rs. document 01: norms and products are sums from 0 in rising index.
+//! docs/src solver/linalg.rs. docs/SCOPE.md 6.1: norms and products are sums from 0 in rising index.
 
 use crate::error::Result;
 use crate::matrix::{DMatrix, DVector};
@@ -51,7 +51,7 @@ pub fn solve_and_covariance(a: &DMatrix, b: &DVector, fit_tol: f64) -> Result<So
         }
     }
 
-    // document 01: one-sided Jacobi, which always gives U and V
+    // docs/SCOPE.md 6.2: one-sided Jacobi, which always gives U and V
     let svd = svd(a_scaled);
     let u = &svd.u;
     let v_t = &svd.v_t;

@@ -100,9 +100,9 @@ pub struct FitInputs<'a> {
     pub observations: &'a [&'a Observation],
     pub terms: &'a [Box<dyn Term>],
     pub fixed: &'a [bool],
-    // document 01: parallel flags are dropped
+    // docs/SCOPE.md 2.1.4: parallel flags are dropped
     pub coefficients: &'a [f64],
-    // document 01: sin and cos of the latitude are lent
+    // docs/SCOPE.md 3.2.3: sin and cos of the latitude are lent
     pub latitude: Latitude,
     pub fit_tol: f64,
 }

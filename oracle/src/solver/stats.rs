@@ -1,4 +1,5 @@
-//! docs/src solver/stats.rs. document 01: cos dec is read from the lent sheets; dots are sums from 0.
+//! docs/src solver/stats.rs. docs/SCOPE.md 3.1, 6.1: cos dec is read from the lent sheets; dots are
+//! sums from 0.
 
 use super::linalg::SolveOutcome;
 use super::ObsDiagnostic;
@@ -32,7 +33,7 @@ fn sum_sq_sky(residuals: &DVector, observations: &[&Observation]) -> f64 {
     for i in 0..observations.len() {
         let dh = residuals[2 * i];
         let dd = residuals[2 * i + 1];
-        // document 01: read from the lent sheet
+        // docs/SCOPE.md 3.1: read from the lent sheet
         let cos_dec = observations[i].sheet.cos_dec(1);
         let dx = dh * cos_dec;
         sum_sq += dx * dx + dd * dd;

@@ -1,5 +1,5 @@
-//! document 01, "The trial loop": the sets that an iterated fit tries, worked out from its input
-//! alone, and a set's weighted residuals.
+//! docs/SCOPE.md 8.7: the sets that an iterated fit tries, worked out from its input alone, and a
+//! set's weighted residuals.
 
 use super::design::cos_dec_per_obs;
 use super::iterated::{build_lm_system, rotational_step_norm};

@@ -1,10 +1,10 @@
-//! docs/src solver/validate.rs. document 01: its refusals are questions 11 to 13.
+//! docs/src solver/validate.rs. docs/SCOPE.md 10.1: its refusals are questions 11 to 13.
 
 use super::FitInputs;
 use crate::error::Result;
 
 pub(super) fn validate_fit_inputs(inputs: &FitInputs<'_>) -> Result<()> {
-    // document 01: the errors are numbers 12, 11 and 13
+    // docs/SCOPE.md 10.1: the errors are numbers 12, 11 and 13
     let free_count = inputs.fixed.iter().filter(|&&f| !f).count();
     if free_count == 0 && !inputs.terms.is_empty() {
         return Err(12);
@@ -15,7 +15,7 @@ pub(super) fn validate_fit_inputs(inputs: &FitInputs<'_>) -> Result<()> {
     if inputs.observations.len() < free_count {
         return Err(13);
     }
-    // document 01: parallel flags are dropped
+    // docs/SCOPE.md 2.1.4: parallel flags are dropped
     Ok(())
 }
 

@@ -1,5 +1,5 @@
 //! docs/src terms/equatorial.rs: the Jacobians of the fifteen equatorial kinds.
-//! document 01: sines, cosines and the tangent are read from the lent sheet and latitude.
+//! docs/SCOPE.md 3.1, 3.2.3: sines, cosines and the tangent are read from the lent sheet and latitude.
 
 use super::Term;
 use crate::libm;
@@ -138,7 +138,7 @@ impl Term for TX {
     }
     fn jacobian_equatorial(&self, sheet: &Sheet, lat: Latitude, _pier: f64) -> (f64, f64) {
         let sin_alt = lat.sin * sheet.sin_dec(1) + lat.cos * sheet.cos_dec(1) * sheet.cos_h(1);
-        // document 01: sin_alt itself where the Rust takes sin of asin
+        // docs/SCOPE.md 4.4.4: sin_alt itself where the Rust takes sin of asin
         let sin_a = sin_alt;
         if sin_a.abs() < 1e-10 {
             return (0.0, 0.0);
@@ -164,7 +164,7 @@ impl Term for TXN {
         }
         let sin_z = libm::sqrt((1.0 - cos_z * cos_z).max(0.0));
         let tan_z = sin_z / cos_z;
-        // document 01: the power n-1 is the product of that many tan_z, from the left starting at 1
+        // docs/SCOPE.md 4.4.5: the power n-1 is the product of that many tan_z, from the left starting at 1
         let mut scale = 1.0;
         for _ in 1..self.n {
             scale *= tan_z;

@@ -1,5 +1,5 @@
 //! docs/src terms/harmonic.rs: harmonic names and their Jacobians.
-//! document 01: an ill-formed harmonic is 10; sines and cosines are read from the lent sheet.
+//! docs/SCOPE.md 4.3: an ill-formed harmonic is 10; sines and cosines are read from the lent sheet.
 
 use super::Term;
 use crate::error::Result;
@@ -133,7 +133,7 @@ impl HarmonicTerm {
     }
 }
 
-// document 01: sine and cosine of frequency times h or dec are read from the sheet;
+// docs/SCOPE.md 4.3.4: sine and cosine of frequency times h or dec are read from the sheet;
 // coordinates A, E and Z have value 0, so their sine is 0 and their cosine 1
 fn trig_value(func: TrigFunc, coord: Coordinate, sheet: &Sheet, frequency: u8) -> f64 {
     match func {

@@ -11,7 +11,7 @@ pub trait Term: Send + Sync {
     fn name(&self) -> &str;
     fn description(&self) -> &str;
 
-    // document 01: a sheet in place of h and dec, a pair in place of lat
+    // docs/SCOPE.md 3.1, 3.2.3: a sheet in place of h and dec, a pair in place of lat
     fn jacobian_equatorial(&self, sheet: &Sheet, lat: Latitude, pier: f64) -> (f64, f64);
 
     fn pier_sensitive(&self) -> bool {
@@ -20,7 +20,7 @@ pub trait Term: Send + Sync {
 }
 
 pub fn create_term(name: &str) -> Result<Box<dyn Term>> {
-    // document 01: `to_uppercase` takes ASCII letters only
+    // docs/SCOPE.md 4.1.2: `to_uppercase` takes ASCII letters only
     match name.to_ascii_uppercase().as_str() {
         "IH" => Ok(Box::new(equatorial::IH)),
         "ID" => Ok(Box::new(equatorial::ID)),
@@ -31,7 +31,7 @@ pub fn create_term(name: &str) -> Result<Box<dyn Term>> {
         "TF" => Ok(Box::new(equatorial::TF)),
         "TX" => Ok(Box::new(equatorial::TX)),
         name if name.starts_with("TX") && name.len() > 2 => {
-            // document 01: an unknown term is 9
+            // docs/SCOPE.md 4.2: an unknown term is 9
             let n: u8 = name[2..].parse().map_err(|_| 9u8)?;
             if n == 0 {
                 return Err(9);
@@ -44,7 +44,7 @@ pub fn create_term(name: &str) -> Result<Box<dyn Term>> {
         "HCEC" => Ok(Box::new(equatorial::HCEC)),
         "DCES" => Ok(Box::new(equatorial::DCES)),
         "DCEC" => Ok(Box::new(equatorial::DCEC)),
-        // document 01: the alt-azimuth terms are refused with 8
+        // docs/SCOPE.md 4.2.2: the alt-azimuth terms are refused with 8
         "IA" => Err(8),
         "IE" => Err(8),
         "CA" => Err(8),

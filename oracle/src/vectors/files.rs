@@ -97,7 +97,7 @@ fn doubles(m: usize, n: usize) -> Vec<usize> {
     out
 }
 
-/// Document 01's file in each mode, cut everywhere, and every header byte changed to every value.
+/// The file of docs/SCOPE.md 11.3.5 in each mode, cut everywhere, and every header byte changed to every value.
 fn documented(records: &mut Records, maker: &Maker) {
     for mode in MODES {
         records.whole(bytes(maker, &still(mode, &[-10.0])));

@@ -125,7 +125,7 @@ fn regime(maker: &mut Maker) -> Case {
     case
 }
 
-/// Document 01's file case with max_iter 0, and its stars with other limits.
+/// The file case of docs/SCOPE.md 12.1 with max_iter 0, and its stars with other limits.
 pub fn documented(out: &mut Vec<Case>) {
     for mode in MODES {
         for max_iter in [0, 1, 2, 50, 1000, 1001] {

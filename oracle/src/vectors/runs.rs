@@ -231,7 +231,7 @@ pub fn slot(name: &[u8]) -> [u8; NAME] {
     out
 }
 
-/// Stars on the still sheet, East, hour-angle difference 0, with ID free at 0: document 01's cases.
+/// Stars on the still sheet, East, hour-angle difference 0, with ID free at 0: docs/SCOPE.md 12.1.
 pub fn still(mode: u8, dd: &[f64]) -> Case {
     let mut case = Case {
         mode,

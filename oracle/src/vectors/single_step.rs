@@ -7,7 +7,7 @@ use super::Vectors;
 
 pub const ASKED: [u8; 12] = [1, 2, 3, 4, 5, 7, 8, 9, 10, 11, 12, 13];
 
-/// Document 01's file case and four-star case, with each fit_tol.
+/// The file case and the four stars of docs/SCOPE.md 12.1, with each fit_tol.
 pub fn documented(out: &mut Vec<Case>) {
     for fit_tol in [0.0, -0.0, -1.0, 5e-324, 1e-12, 0.5, 1.0, 2.0] {
         for dd in [&[-10.0][..], &[-10.0, -20.0, -10.0, -20.0]] {
