@@ -3,9 +3,11 @@
 ghost use mathlib.Core.Path.{_≡_};
 ghost use Prim.Native.Nat.{_+_, _*_, _≤_, _<_};
 ghost use lib.ListN.{length};
+ghost use Rattle.limits.specs.Limits.{maxTerms};
 ghost use Rattle.sequence.specs.Sequence.{part, Only};
 ghost use Rattle.jacobi.specs.Jacobi.{factorised};
 ghost use Rattle.linalg.specs.Linalg.{Placed, leverageOf, solvedDamped};
+use limits::MAX_TERMS;
 
 #[no_mangle]
 pub extern "C" fn bench_factorise(w: &mut [f64], h: usize, rows: usize, m: usize) -> jacobi::Sweeps
@@ -26,8 +28,9 @@ pub extern "C" fn bench_solve_damped(
     lambda: f64,
     fit_tol: f64,
 ) -> linalg::SolveOutcome
-    requires { ⌜ (0 < m) × (m ≤ 32) × (rows + m + m ≤ h) × (c + m * h ≤ length (now w)) × (b + rows ≤ c) ⌝ }
-    ensures { λ r. ⌜ (record { outcome = r; w = part (now (w .exit)) c (m * h) } ≡ solvedDamped h rows m (part (now (w .entry)) c (m * h)) (part (now (w .entry)) b rows) lambda «fit_tol»)
+    requires { ⌜ (0 < m) × (m ≤ maxTerms) × (rows + m + m ≤ h) × (c + m * h ≤ length (now w)) × (b + rows ≤ c) ⌝ }
+    ensures { λ r. ⌜ (record { outcome = r; w = part (now (w .exit)) c (m * h) } ≡ solvedDamped h rows m (part (now (w .entry)) c (m * h))
+        (part (now (w .entry)) b rows) lambda «fit_tol»)
         × Only c (m * h) (now (w .entry)) (now (w .exit)) ⌝ }
 {
     linalg::solve_damped(w, c, h, rows, m, b, lambda, fit_tol)
@@ -40,7 +43,7 @@ pub extern "C" fn bench_leverage(
     h: usize,
     order: &[usize],
     r: usize,
-    inv_s: &[f64; 32],
+    inv_s: &[f64; MAX_TERMS],
 ) -> f64
     requires { ⌜ Placed h (now w) (now order) × (r < h) ⌝ }
     ensures { λ t. ⌜ t ≡ leverageOf h (now (w .entry)) (now (order .entry)) (now («inv_s» .entry)) r ⌝ }

@@ -15,20 +15,25 @@ use Rattle.column.specs.Column.{norms, norm, scaleOf, scaledColumn, unitColumn,
 use Rattle.order.specs.Order.{order, best}
 use Rattle.linalg.specs.Linalg.{solved, answered, decomposed, inverses, inverse, rankTo, projected, xScaled, solution, scaledVariance, covariance, leverageOf, threshold, solvedDamped}
 use Rattle.design.specs.Design as Design
-use Rattle.design.specs.Design.{stars, column, skyColumn, differences, skyDifferences, freeBefore, ofFree, subtractAll, product, freeProduct, stacked, predicted, weighing}
-use Rattle.design.specs.Filled.{skyRows, rowsTo}
-use Rattle.validate.specs.Questions.{asked, limits, counts, scratchNeeded, room, finiteInput, finiteOptions, codesKnown}
-use Rattle.stats.specs.Stats.{sumSqSky, skyRms, popnSd, variance, sigmaAt, deviation, clamped, studentizedRow, diagnostic}
+use Rattle.design.specs.Design.{kept, collectIndices, column, skyColumn, differences, skyRows, skyDifferences, subtractAll, product, predicted, scattered, weighing, stacked}
+use Rattle.validate.specs.Questions.{asked, limits, counts, scratchNeeded, room, finiteSettings, finiteInput, finiteOptions, codesKnown}
+use Rattle.stats.specs.Stats.{sumSqSky, skyFrom, variance, deviation, clamped, studentizedRow, diagnostic}
 use Rattle.best.specs.ChiSquare.{chi}
 use Rattle.best.specs.Trials.{after}
-use Rattle.outcome.specs.Outcome.{finished, resultOf, sigmaOf, diagnosticOf, diagnosticNumbers}
-use Rattle.single_step.specs.SingleStep.{fitOutcome, fitted, step, toFit, change, newCoefficients, freeResiduals, residuals}
-use Rattle.lm_system.specs.System as System
-use Rattle.lm_system.specs.System.{chi2Of, skyResiduals, huberFrom, lmStep, moved}
+use Rattle.outcome.specs.Outcome.{finished, sigmaOf, diagnosticOf, diagnosticNumbers}
+use Rattle.single_step.specs.SingleStep.{fitOutcome, fittedRun, step, toFit, change, newCoefficients, freeResiduals, actualResiduals}
+use Rattle.lm_system.specs.System.{residualsUnder, skyResiduals, chi2At, huberFrom, lmStep, moved}
 use Rattle.iterated.specs.Iterated as Iterated
 use Rattle.iterated.specs.Iterated.{iteratedOutcome, lmLoop, lastSet}
 use Rattle.cases.specs.Cases.{Starred}
 
 pub starred : Starred
-unfolding nameOf wellFormed digitsFrom unsigned components parseHarmonic readHarmonic byKnown readTerm jacobianOf pointOf isFinite abs neg add sub mul div lt le eq ofBits ofInt Root.sqrt table filled each sumTo sumBut dot zipWith fitOutcome asked limits counts scratchNeeded room finiteInput finiteOptions codesKnown firstOf fitted finished resultOf step toFit change newCoefficients freeResiduals residuals sigmaOf diagnosticOf diagnosticNumbers stars Design.rows column skyColumn differences skyDifferences freeBefore ofFree subtractAll product freeProduct stacked sumSqSky skyRms popnSd variance sigmaAt deviation clamped studentizedRow diagnostic solved answered decomposed norms norm scaleOf scaledColumn unitColumn columns diagonal diagonals extended inverses inverse rankTo projected xScaled solution scaledVariance covariance leverageOf threshold order best sweeps sweep row pair turn zetaOf tanOf cosOf iteratedOutcome Iterated.fitted lmLoop after lastSet Iterated.freeResiduals Iterated.change chi2Of chi System.residuals skyResiduals huberFrom lmStep moved solvedDamped predicted weighing skyRows rowsTo
+unfolding nameOf wellFormed digitsFrom unsigned components parseHarmonic readHarmonic byKnown readTerm jacobianOf pointOf isFinite abs neg add sub mul div lt
+    le eq ofBits ofInt Root.sqrt table filled each sumTo sumBut dot zipWith fitOutcome asked limits counts scratchNeeded room finiteInput finiteOptions
+    codesKnown firstOf finished step toFit newCoefficients freeResiduals sigmaOf diagnosticOf diagnosticNumbers Design.rows column skyColumn differences
+    skyDifferences subtractAll product stacked sumSqSky variance deviation clamped studentizedRow diagnostic solved answered decomposed norms norm scaleOf
+    scaledColumn unitColumn columns diagonal diagonals extended inverses inverse rankTo projected xScaled solution scaledVariance covariance leverageOf
+    threshold order best sweeps sweep row pair turn zetaOf tanOf cosOf iteratedOutcome lmLoop after lastSet Iterated.freeResiduals chi skyResiduals huberFrom
+    lmStep moved solvedDamped predicted weighing skyRows kept collectIndices scattered finiteSettings skyFrom fittedRun actualResiduals change
+    Iterated.fittedRun residualsUnder chi2At
 starred = refl

@@ -27,7 +27,7 @@ use Rattle.terms.specs.declared.answer.Jacobian.{Jacobian}
 use Rattle.terms.specs.declared.answer.Jacobian.the-variants.{Given}
 use Rattle.solver.specs.declared.Fit.{Fit}
 use Rattle.solver.specs.declared.Fit.the-variants.{Done, Refused}
-use Rattle.solver.specs.Call.{FitInputs, Buffers, inputs, buffers}
+use Rattle.solver.specs.Call.{FitInputs, Buffers, settingsOf, inputs, buffers}
 use Rattle.validate.specs.Questions.{scratchNeeded}
 use Rattle.solver.specs.Records.{defaults}
 use Rattle.solver.specs.declared.IterOptions.{IterOptions}
@@ -112,7 +112,7 @@ stills (suc n) = still ++ stills n
 abbrev pub run : List Float → FitInputs
 run dd =
     let n = length dd in
-    inputs (slot "ID") (0 ∷ []) (#0 ∷ []) (replicate n #0) dd (replicate n east) (stills n) #0 #1 #0
+    inputs (slot "ID") (0 ∷ []) (#0 ∷ []) (replicate n #0) dd (replicate n east) (stills n) (settingsOf #0 #1 #0)
 
 -- buffers of just the size
 abbrev pub exact : ℕ → Buffers

@@ -1,2 +1,5 @@
 pub mod Rows
-pub mod Free
+pub mod Stars
+pub mod Terms
+pub mod Indices
+pub mod Runs

@@ -1,11 +1,13 @@
--- Stars, the design's columns and the residuals, as docs/SCOPE.md 7 and 8 and solver/design.rs have them. A vector has two numbers a star, hour angle
--- and declination. Definitions only.
-use Prim.Native.Nat.{ℕ, _*_, _+_, _-_}
+-- A run: its stars, its terms and what a fit makes of them, the design's columns and the residuals, as docs/SCOPE.md 7 and 8 and solver/design.rs have
+-- them. A vector has two numbers a star, hour angle and declination. Definitions only.
+use Prim.Native.Nat.{ℕ, _*_, _+_, _-_, _≤_, _<_}
+use mathlib.Core.Path.{_≡_}
 use mathlib.Core.Bool.{Bool, cond}
-use mathlib.Core.List.{List, [], _∷_, _++_, zipWith}
+use mathlib.Core.List.{List, [], _∷_, _++_, map, zipWith}
 use lib.Dec.{eqb}
-use lib.ListN.{length, getD, replicate}
+use lib.ListN.{length, getD, set, replicate}
 use lib.Ieee.{Float, binary64, lt, eq}
+use Rattle.limits.specs.Limits.{sheetNumbers}
 use Rattle.float.specs.Float.{_⊕_, _⊖_, _⊗_, _⊘_, #0, abs}
 use Rattle.sqrt.specs.Sqrt.{sqrt}
 use Rattle.sequence.specs.Sequence.{part, at, table, each}
@@ -13,10 +15,13 @@ use Rattle.observation.specs.Observation.{signOf, sideOf}
 use Rattle.observation.specs.Sheet.{placeDec}
 use Rattle.observation.specs.declared.Pair.{Pair}
 use Rattle.terms.specs.Names.{readTerm}
+use Rattle.terms.specs.Slots.{slot}
 use Rattle.terms.specs.Jacobian.{termJacobian}
 use Rattle.terms.specs.declared.Term.{Term}
+use Rattle.solver.specs.Call.{FitInputs}
+use Rattle.solver.specs.declared.Settings.{Settings}
 
--- ---- what is lent, star by star and term by term
+-- ---- stars
 
 -- raw differences in arcseconds, pier code, sheet
 pub record Star : Type 0 where
@@ -27,17 +32,86 @@ pub record Star : Type 0 where
 
 -- observation i uses the 37 numbers that begin at 37·i
 abbrev pub sheetAt : List Float → ℕ → List Float
-sheetAt sheets i = part sheets (37 * i) 37
+sheetAt sheets i = part sheets (sheetNumbers * i) sheetNumbers
 
 abbrev pub starAt : List Float → List Float → List ℕ → List Float → ℕ → Star
 starAt dh dd pier sheets i = record { dh = at dh i; dd = at dd i; pier = getD pier i 0; sheet = sheetAt sheets i }
 
-unfoldable pub stars : List Float → List Float → List ℕ → List Float → List Star
-stars dh dd pier sheets = table (length dh) (starAt dh dd pier sheets)
+-- the stars at indices
+abbrev pub starsAt : List Float → List Float → List ℕ → List Float → List ℕ → List Star
+starsAt dh dd pier sheets used = map (starAt dh dd pier sheets) used
+
+-- without the differences, of which no column knows
+abbrev pub sightsAt : List ℕ → List Float → List ℕ → List Star
+sightsAt pier sheets used = starsAt [] [] pier sheets used
+
+-- ---- a run
+
+-- a flag of 0 is a free term's
+abbrev pub isFree : List ℕ → ℕ → Bool
+isFree fixed j = eqb (getD fixed j 0) 0
+
+-- of a list with one element for each flag, those whose flag is 0
+unfoldable pub kept : {A : Type 0} → List ℕ → List A → List A
+kept [] xs = []
+kept (f ∷ fs) [] = []
+kept (f ∷ fs) (x ∷ xs) = cond (eqb f 0) (x ∷ kept fs xs) (kept fs xs)
+
+-- 0 to n - 1
+abbrev pub upTo : ℕ → List ℕ
+upTo n = table n (λ i. i)
+
+-- collect_indices: those of the flags that are 0
+unfoldable pub collectIndices : List ℕ → List ℕ
+collectIndices flags = kept flags (upTo (length flags))
 
 -- the name of term j lies in the 16 bytes that begin at 16·j
 abbrev pub termAt : List ℕ → ℕ → Term
-termAt names j = readTerm (part names (16 * j) 16) .term
+termAt names j = readTerm (slot names j) .term
+
+-- its stars, m terms, the indices of the free ones, and the settings
+pub record Run : Type 0 where
+  pub stars : List Star
+  pub m : ℕ
+  pub term : ℕ → Term
+  pub free : List ℕ
+  pub settings : Settings
+
+-- what the functions of a fit are lent: m names in slots, the indices of the free terms; differences, pier codes and sheets, and the indices of the
+-- stars that count; the settings
+pub record RunInputs : Type 0 where
+  pub m : ℕ
+  pub names : List ℕ
+  pub free : List ℕ
+  pub dh : List Float
+  pub dd : List Float
+  pub pier : List ℕ
+  pub sheets : List Float
+  pub used : List ℕ
+  pub settings : Settings
+
+abbrev pub runInputs : ℕ → List ℕ → List ℕ → List Float → List Float → List ℕ → List Float → List ℕ → Settings → RunInputs
+runInputs m names free dh dd pier sheets used settings =
+    record { m = m; names = names; free = free; dh = dh; dd = dd; pier = pier; sheets = sheets; used = used; settings = settings }
+
+abbrev pub runFrom : RunInputs → Run
+runFrom l =
+    record { stars = starsAt (l .dh) (l .dd) (l .pier) (l .sheets) (l .used); m = l .m; term = termAt (l .names); free = l .free; settings = l .settings }
+
+-- of a call: every star counts
+abbrev pub listed : FitInputs → RunInputs
+listed l =
+    runInputs (length (l .coefficients)) (l .names) (collectIndices (l .fixed)) (l .dh) (l .dd) (l .pier) (l .sheets) (upTo (length (l .dh))) (l .settings)
+
+abbrev pub runOf : FitInputs → Run
+runOf l = runFrom (listed l)
+
+-- how many rows the data have, and how many numbers a column of scratch
+abbrev pub rowsOf : Run → ℕ
+rowsOf r = 2 * length (r .stars)
+
+abbrev pub heightOf : Run → ℕ
+heightOf r = rowsOf r + 2 * r .m
 
 -- ---- columns and residuals
 
@@ -50,40 +124,38 @@ rows f g (s ∷ ss) = f s ∷ g s ∷ rows f g ss
 abbrev pub cosDec : List Float → Float
 cosDec sheet = at sheet (placeDec 1 + 1)
 
-abbrev pub starJacobian : Float → Float → Term → ℕ → List Float → Pair
-starJacobian sinLat cosLat t pier sheet = termJacobian t sheet sinLat cosLat (signOf (sideOf pier))
+abbrev pub starJacobian : Settings → Term → Star → Pair
+starJacobian c t s = termJacobian t (s .sheet) (c .«sin_lat») (c .«cos_lat») (signOf (sideOf (s .pier)))
 
 -- build_design_matrix: the column of a term
-unfoldable pub column : Float → Float → List Star → Term → List Float
-column sinLat cosLat ss t = rows (λ s. starJacobian sinLat cosLat t (s .pier) (s .sheet) .dh) (λ s. starJacobian sinLat cosLat t (s .pier) (s .sheet) .dd) ss
+unfoldable pub column : Settings → List Star → Term → List Float
+column c ss t = rows (λ s. starJacobian c t s .dh) (λ s. starJacobian c t s .dd) ss
 
 -- scale_a_ha_rows_by_cos_dec: its hour-angle rows times cos dec
-unfoldable pub skyColumn : Float → Float → List Star → Term → List Float
-skyColumn sinLat cosLat ss t =
-    rows (λ s. starJacobian sinLat cosLat t (s .pier) (s .sheet) .dh ⊗ cosDec (s .sheet)) (λ s. starJacobian sinLat cosLat t (s .pier) (s .sheet) .dd) ss
+unfoldable pub skyColumn : Settings → List Star → Term → List Float
+skyColumn c ss t = rows (λ s. starJacobian c t s .dh ⊗ cosDec (s .sheet)) (λ s. starJacobian c t s .dd) ss
 
--- build_residuals, and scale_ha_rows_by_cos_dec
+-- of a run: the column of term j, and the same on the sky
+abbrev pub columnOf : Run → ℕ → List Float
+columnOf r j = column (r .settings) (r .stars) (r .term j)
+
+abbrev pub skyOf : Run → ℕ → List Float
+skyOf r j = skyColumn (r .settings) (r .stars) (r .term j)
+
+-- build_residuals
 unfoldable pub differences : List Star → List Float
 differences ss = rows (λ s. s .dh) (λ s. s .dd) ss
 
+-- scale_ha_rows_by_cos_dec: of two numbers a star, the first times cos dec
+unfoldable pub skyRows : List Star → List Float → List Float
+skyRows [] b = []
+skyRows (s ∷ ss) [] = []
+skyRows (s ∷ ss) (h ∷ []) = []
+skyRows (s ∷ ss) (h ∷ d ∷ b) = (h ⊗ cosDec (s .sheet)) ∷ d ∷ skyRows ss b
+
+-- both
 unfoldable pub skyDifferences : List Star → List Float
 skyDifferences ss = rows (λ s. s .dh ⊗ cosDec (s .sheet)) (λ s. s .dd) ss
-
--- ---- free and fixed terms: a flag of 0 is a free term's
-
-abbrev pub isFree : List ℕ → ℕ → Bool
-isFree fixed j = eqb (getD fixed j 0) 0
-
--- how many of the first j terms are free: the place of term j among the free ones
-unfoldable pub freeBefore : List ℕ → ℕ → ℕ
-freeBefore fixed j = each j 0 (λ i k. cond (isFree fixed i) (k + 1) k) 0
-
-abbrev pub freeCount : List ℕ → ℕ
-freeCount fixed = freeBefore fixed (length fixed)
-
--- f of each free term among the first j, in order
-unfoldable pub ofFree : {A : Type 0} → List ℕ → (ℕ → A) → ℕ → List A
-ofFree fixed f j = each j 0 (λ i l. cond (isFree fixed i) (l ++ (f i ∷ [])) l) []
 
 -- ---- products
 
@@ -106,9 +178,13 @@ product n m c a = each m 0 (λ j p. plus (c j) p (a j)) (replicate n #0)
 unfoldable pub predicted : ℕ → ℕ → (ℕ → Float) → (ℕ → List Float) → List Float
 predicted n m c a = each m 0 (λ j p. cond (eq (c j) #0) p (plus (c j) p (a j))) (replicate n #0)
 
--- the columns of the free terms times x
-unfoldable pub freeProduct : ℕ → ℕ → List ℕ → List Float → (ℕ → List Float) → List Float
-freeProduct n m fixed x a = each m 0 (λ j p. cond (isFree fixed j) (plus (at x (freeBefore fixed j)) p (a j)) p) (replicate n #0)
+-- extract_columns: that of the i-th free term
+abbrev pub extracted : List ℕ → (ℕ → List Float) → ℕ → List Float
+extracted free a i = a (getD free i 0)
+
+-- f 0, f 1 and so on in the places of the free terms
+unfoldable pub scattered : List ℕ → (ℕ → Float) → List Float → List Float
+scattered free f d = each (length free) 0 (λ i t. set t (getD free i 0) (f i)) d
 
 -- ---- Huber weights, as build_lm_system has them
 
@@ -119,6 +195,10 @@ weighed k r x = cond (lt k (abs r)) (x ⊗ sqrt binary64 (k ⊘ abs r)) x
 -- a column whose rows have the residuals b; as it is where k isn't above 0
 unfoldable pub weighing : Float → List Float → List Float → List Float
 weighing k b a = cond (lt #0 k) (zipWith (weighed k) b a) a
+
+-- the sky column of the term in slot j, whose rows have the residuals b
+abbrev pub weighedAt : Float → List Float → Settings → List Star → List ℕ → ℕ → List Float
+weighedAt k b c ss names j = weighing k b (skyColumn c ss (termAt names j))
 
 -- ---- columns one after the other, as the solver reads them: h numbers each, with zeros below the data rows
 unfoldable pub stacked : ℕ → List (List Float) → List Float

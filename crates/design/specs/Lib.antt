@@ -1,2 +1,2 @@
 pub mod Design
-pub mod Filled
+pub mod Counted

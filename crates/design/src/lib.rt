@@ -1,118 +1,127 @@
-// The design's columns and the residuals, star by star, from the lent slices. After solver/design.rs.
+// The design's columns and the residuals, from the lent slices: star by star over `used`, the indices of the stars that count, and term by
+// term. A vector has two numbers a star. After solver/design.rs.
 
 ghost use mathlib.Core.Path.{_≡_};
-ghost use mathlib.Core.List.{zipWith};
-ghost use Prim.Native.Nat.{_+_, _*_, _<_, _≤_};
+ghost use mathlib.Core.Bool.{cond};
+ghost use mathlib.Core.List.{List, [], map, zipWith};
+ghost use Prim.Native.Nat.{_+_, _-_, _*_, _<_, _≤_};
 ghost use lib.ListN.{length};
 ghost use lib.Seq.{sets};
-ghost use lib.Ieee.{binary64, sub};
-ghost use Rattle.sequence.specs.Sequence.{at, part};
-ghost use Rattle.design.specs.Design.{sheetAt, cosDec, less, plus, freeCount, weighed as weighedOf, weighing};
-ghost use Rattle.design.specs.Filled.{jacobianAt, columnTo, skyColumnTo, differencesTo, skyDifferencesTo, skyRows, Beside};
+ghost use lib.Ieee.{binary64, sub, eq};
+ghost use Rattle.limits.specs.Limits.{maxTerms, slotBytes, sheetNumbers};
+ghost use Rattle.float.specs.Float.{#0};
+ghost use Rattle.sequence.specs.Sequence.{at, part, Only};
+ghost use Rattle.design.specs.Design.{Star, sheetAt, starAt, starsAt, sightsAt, termAt, cosDec, starJacobian};
+ghost use Rattle.design.specs.Design.{column, skyColumn, differences, skyDifferences, skyRows, less, plus};
+ghost use Rattle.design.specs.Design.{subtractAll, product as productOf, predicted, extracted, weighed as weighedOf, weighing, weighedAt, stacked};
+ghost use Rattle.design.specs.Counted.{Below, Seen, Named, Beside, Apart};
+use limits::MAX_TERMS;
+use limits::SHEET;
+use limits::SLOT;
 use observation::Pair;
 use observation::PierSide;
+use solver::Settings;
 use terms::Term;
 
+// ---- star by star
+
 // The Jacobian of a term at star i: the part of the lent sheets that belongs to it is passed on.
-fn jacobian_at(
-    term: Term,
-    pier: &[u8],
-    sheets: &[f64],
-    sin_lat: f64,
-    cos_lat: f64,
-    i: usize,
-) -> Pair
-    requires { ⌜ (i < length (now pier)) × (length (now sheets) ≡ 37 * length (now pier)) ⌝ }
-    ensures { λ r. ⌜ r ≡ jacobianAt «sin_lat» «cos_lat» term (now (pier .entry)) (now (sheets .entry)) i ⌝ }
+fn jacobian_at(term: Term, pier: &[u8], sheets: &[f64], s: Settings, i: usize) -> Pair
+    requires { ⌜ (i < length (now pier)) × (length (now sheets) ≡ sheetNumbers * length (now pier)) ⌝ }
+    ensures { λ r. ⌜ r ≡ starJacobian s term (starAt [] [] (now (pier .entry)) (now (sheets .entry)) i) ⌝ }
 {
-    let a = 37 * i;
+    let a = SHEET * i;
     let sign = PierSide::from_code(pier[i]).sign();
-    terms::jacobian_equatorial(term, &sheets[a..a + 37], sin_lat, cos_lat, sign)
+    terms::jacobian_equatorial(term, &sheets[a..a + SHEET], s.sin_lat, s.cos_lat, sign)
 }
 
 // cos dec of star i.
 pub fn cos_dec(sheets: &[f64], i: usize) -> f64
-    requires { ⌜ 37 * i + 37 ≤ length (now sheets) ⌝ }
+    requires { ⌜ sheetNumbers * i + sheetNumbers ≤ length (now sheets) ⌝ }
     ensures { λ r. ⌜ r ≡ cosDec (sheetAt (now (sheets .entry)) i) ⌝ }
 {
-    let a = 37 * i;
-    observation::number_at(&sheets[a..a + 37], 19)
+    let a = SHEET * i;
+    observation::number_at(&sheets[a..a + SHEET], 19)
 }
 
-// The column of a term, for all stars.
-pub fn fill_column(
-    term: Term,
-    pier: &[u8],
-    sheets: &[f64],
-    sin_lat: f64,
-    cos_lat: f64,
-    col: &mut [f64],
-)
-    requires { ⌜ (length (now sheets) ≡ 37 * length (now pier)) × (length (now col) ≡ 2 * length (now pier)) ⌝ }
-    ensures { λ _. ⌜ now (col .exit) ≡ columnTo «sin_lat» «cos_lat» (now (pier .entry)) (now (sheets .entry)) term ⌝ }
+// The column of a term.
+fn fill_column(term: Term, pier: &[u8], sheets: &[f64], used: &[u16], s: Settings, col: &mut [f64])
+    ghost { List Star }
+    requires { λ ss. ⌜ sightsAt (now pier) (now sheets) (now used) ≡ ss ⌝ }
+    requires { λ _. ⌜ Seen (now pier) (now sheets) (now used) × (length (now col) ≡ 2 * length (now used)) ⌝ }
+    ensures { λ ss _. ⌜ now (col .exit) ≡ column s ss term ⌝ }
 {
-    for i in 0..pier.len() {
-        let p = jacobian_at(term, pier, sheets, sin_lat, cos_lat, i);
-        col[2 * i] = p.dh;
-        col[2 * i + 1] = p.dd;
+    for r in 0..used.len() {
+        let p = jacobian_at(term, pier, sheets, s, sequence::index(used[r]));
+        col[2 * r] = p.dh;
+        col[2 * r + 1] = p.dd;
     }
 }
 
 // The same with the hour-angle rows times cos dec.
-pub fn fill_sky_column(
+fn fill_sky_column(
     term: Term,
     pier: &[u8],
     sheets: &[f64],
-    sin_lat: f64,
-    cos_lat: f64,
+    used: &[u16],
+    s: Settings,
     col: &mut [f64],
 )
-    requires { ⌜ (length (now sheets) ≡ 37 * length (now pier)) × (length (now col) ≡ 2 * length (now pier)) ⌝ }
-    ensures { λ _. ⌜ now (col .exit) ≡ skyColumnTo «sin_lat» «cos_lat» (now (pier .entry)) (now (sheets .entry)) term ⌝ }
+    ghost { List Star }
+    requires { λ ss. ⌜ sightsAt (now pier) (now sheets) (now used) ≡ ss ⌝ }
+    requires { λ _. ⌜ Seen (now pier) (now sheets) (now used) × (length (now col) ≡ 2 * length (now used)) ⌝ }
+    ensures { λ ss _. ⌜ now (col .exit) ≡ skyColumn s ss term ⌝ }
 {
-    for i in 0..pier.len() {
-        let p = jacobian_at(term, pier, sheets, sin_lat, cos_lat, i);
+    for r in 0..used.len() {
+        let i = sequence::index(used[r]);
+        let p = jacobian_at(term, pier, sheets, s, i);
         let c = cos_dec(sheets, i);
-        col[2 * i] = p.dh * c;
-        col[2 * i + 1] = p.dd;
+        col[2 * r] = p.dh * c;
+        col[2 * r + 1] = p.dd;
     }
 }
 
-// The raw differences, two a star, with the hour-angle rows times cos dec.
-pub fn build_sky_residuals(dh: &[f64], dd: &[f64], sheets: &[f64], b: &mut [f64])
-    requires { ⌜ (length (now dd) ≡ length (now dh)) × (length (now sheets) ≡ 37 * length (now dh)) × (length (now b) ≡ 2 * length (now dh)) ⌝ }
-    ensures { λ _. ⌜ now (b .exit) ≡ skyDifferencesTo (now (dh .entry)) (now (dd .entry)) (now (sheets .entry)) ⌝ }
+// The raw differences, with the hour-angle rows times cos dec.
+pub fn build_sky_residuals(dh: &[f64], dd: &[f64], sheets: &[f64], used: &[u16], b: &mut [f64])
+    requires { ⌜ (length (now dd) ≡ length (now dh)) × (length (now sheets) ≡ sheetNumbers * length (now dh)) × Below (length (now dh)) (now used)
+        × (length (now b) ≡ 2 * length (now used)) ⌝ }
+    ensures { λ _. ⌜ now (b .exit) ≡ skyDifferences (starsAt (now (dh .entry)) (now (dd .entry)) [] (now (sheets .entry)) (now (used .entry))) ⌝ }
 {
-    for i in 0..dh.len() {
+    for r in 0..used.len() {
+        let i = sequence::index(used[r]);
         let c = cos_dec(sheets, i);
-        b[2 * i] = dh[i] * c;
-        b[2 * i + 1] = dd[i];
+        b[2 * r] = dh[i] * c;
+        b[2 * r + 1] = dd[i];
     }
 }
 
 // The raw differences less what b holds.
-pub fn subtract_from_differences(dh: &[f64], dd: &[f64], b: &mut [f64])
-    requires { ⌜ (length (now dd) ≡ length (now dh)) × (length (now b) ≡ 2 * length (now dh)) ⌝ }
-    ensures { λ _. ⌜ now (b .exit) ≡ zipWith (sub binary64) (differencesTo (now (dh .entry)) (now (dd .entry))) (now (b .entry)) ⌝ }
+pub fn subtract_from_differences(dh: &[f64], dd: &[f64], used: &[u16], b: &mut [f64])
+    requires { ⌜ (length (now dd) ≡ length (now dh)) × Below (length (now dh)) (now used) × (length (now b) ≡ 2 * length (now used)) ⌝ }
+    ensures { λ _. ⌜ now (b .exit) ≡ zipWith (sub binary64) (differences (starsAt (now (dh .entry)) (now (dd .entry)) [] [] (now (used .entry))))
+        (now (b .entry)) ⌝ }
 {
-    for i in 0..dh.len() {
-        let h = dh[i] - b[2 * i];
-        let d = dd[i] - b[2 * i + 1];
-        b[2 * i] = h;
-        b[2 * i + 1] = d;
+    for r in 0..used.len() {
+        let i = sequence::index(used[r]);
+        let h = dh[i] - b[2 * r];
+        let d = dd[i] - b[2 * r + 1];
+        b[2 * r] = h;
+        b[2 * r + 1] = d;
     }
 }
 
-// The hour-angle rows of n stars times cos dec.
-pub fn scale_ha_rows(sheets: &[f64], n: usize, b: &mut [f64])
-    requires { ⌜ (length (now sheets) ≡ 37 * n) × (length (now b) ≡ 2 * n) ⌝ }
-    ensures { λ _. ⌜ now (b .exit) ≡ skyRows n (λ i. cosDec (sheetAt (now (sheets .entry)) i)) (now (b .entry)) ⌝ }
+// The hour-angle rows of b times cos dec, where the sheets are those of n stars.
+pub fn scale_ha_rows(sheets: &[f64], n: usize, used: &[u16], b: &mut [f64])
+    requires { ⌜ (length (now sheets) ≡ sheetNumbers * n) × Below n (now used) × (length (now b) ≡ 2 * length (now used)) ⌝ }
+    ensures { λ _. ⌜ now (b .exit) ≡ skyRows (sightsAt [] (now (sheets .entry)) (now (used .entry))) (now (b .entry)) ⌝ }
 {
-    for i in 0..n {
-        let c = cos_dec(sheets, i);
-        b[2 * i] = b[2 * i] * c;
+    for r in 0..used.len() {
+        let c = cos_dec(sheets, sequence::index(used[r]));
+        b[2 * r] = b[2 * r] * c;
     }
 }
+
+// ---- numbers of one slice, by their places
 
 // The n numbers from y on become those from x on.
 pub fn copy(w: &mut [f64], x: usize, y: usize, n: usize)
@@ -147,8 +156,8 @@ pub fn weigh(w: &mut [f64], x: usize, y: usize, n: usize, k: f64)
     }
 }
 
-// Of the n numbers from y on, those from x on times c are taken.
-pub fn subtract_scaled(w: &mut [f64], x: usize, y: usize, n: usize, c: f64)
+// y -= c * x, of the n numbers from y on and those from x on.
+fn subtract_scaled(w: &mut [f64], x: usize, y: usize, n: usize, c: f64)
     requires { ⌜ (x + n ≤ y) × (y + n ≤ length (now w)) ⌝ }
     ensures { λ _. ⌜ now (w .exit) ≡ sets (now (w .entry)) y (less c (part (now (w .entry)) y n) (part (now (w .entry)) x n)) ⌝ }
 {
@@ -157,8 +166,8 @@ pub fn subtract_scaled(w: &mut [f64], x: usize, y: usize, n: usize, c: f64)
     }
 }
 
-// To the n numbers from y on, those from x on times c are added.
-pub fn add_scaled(w: &mut [f64], x: usize, y: usize, n: usize, c: f64)
+// y += c * x.
+fn add_scaled(w: &mut [f64], x: usize, y: usize, n: usize, c: f64)
     requires { ⌜ (x + n ≤ y) × (y + n ≤ length (now w)) ⌝ }
     ensures { λ _. ⌜ now (w .exit) ≡ sets (now (w .entry)) y (plus c (part (now (w .entry)) y n) (part (now (w .entry)) x n)) ⌝ }
 {
@@ -167,7 +176,7 @@ pub fn add_scaled(w: &mut [f64], x: usize, y: usize, n: usize, c: f64)
     }
 }
 
-// The n numbers from x on become those from y on less themselves.
+// x = y - x.
 pub fn subtract_from(w: &mut [f64], x: usize, y: usize, n: usize)
     requires { ⌜ (x + n ≤ y) × (y + n ≤ length (now w)) ⌝ }
     ensures { λ _. ⌜ now (w .exit) ≡ sets (now (w .entry)) x (zipWith (sub binary64) (part (now (w .entry)) y n) (part (now (w .entry)) x n)) ⌝ }
@@ -177,15 +186,225 @@ pub fn subtract_from(w: &mut [f64], x: usize, y: usize, n: usize)
     }
 }
 
-// How many flags are 0: the number of free terms.
-pub fn free_count(fixed: &[u8]) -> usize
-    ensures { λ r. ⌜ r ≡ freeCount (now (fixed .entry)) ⌝ }
+// ---- term by term; v begins with a column's room, and the vector that is worked on lies behind it
+
+// The term of slot j.
+pub fn term_at(names: &[u8], j: usize) -> Term
+    requires { ⌜ slotBytes * j + slotBytes ≤ length (now names) ⌝ }
+    ensures { λ r. ⌜ r ≡ termAt (now (names .entry)) j ⌝ }
 {
-    let mut count = 0;
-    for i in 0..fixed.len() {
-        if fixed[i] == 0 {
-            count += 1;
+    let a = SLOT * j;
+    terms::read_term(&names[a..a + SLOT]).term
+}
+
+// b += c * a, where a is the column of a term.
+fn add_column(
+    term: Term,
+    pier: &[u8],
+    sheets: &[f64],
+    used: &[u16],
+    s: Settings,
+    c: f64,
+    v: &mut [f64],
+)
+    ghost { List Star }
+    requires { λ ss. ⌜ sightsAt (now pier) (now sheets) (now used) ≡ ss ⌝ }
+    requires { λ _. ⌜ Seen (now pier) (now sheets) (now used) × (length (now v) ≡ 4 * length (now used)) ⌝ }
+    ensures { λ ss _. ⌜ part (now (v .exit)) (2 * length (now (used .entry))) (2 * length (now (used .entry)))
+        ≡ plus c (part (now (v .entry)) (2 * length (now (used .entry))) (2 * length (now (used .entry)))) (column s ss term) ⌝ }
+{
+    let rows = 2 * used.len();
+    fill_column(term, pier, sheets, used, s, &mut v[..rows]);
+    add_scaled(v, 0, rows, rows, c);
+}
+
+// b -= c * a, where a is the sky column of a term.
+fn subtract_sky_column(
+    term: Term,
+    pier: &[u8],
+    sheets: &[f64],
+    used: &[u16],
+    s: Settings,
+    c: f64,
+    v: &mut [f64],
+)
+    ghost { List Star }
+    requires { λ ss. ⌜ sightsAt (now pier) (now sheets) (now used) ≡ ss ⌝ }
+    requires { λ _. ⌜ Seen (now pier) (now sheets) (now used) × (length (now v) ≡ 4 * length (now used)) ⌝ }
+    ensures { λ ss _. ⌜ part (now (v .exit)) (2 * length (now (used .entry))) (2 * length (now (used .entry)))
+        ≡ less c (part (now (v .entry)) (2 * length (now (used .entry))) (2 * length (now (used .entry)))) (skyColumn s ss term) ⌝ }
+{
+    let rows = 2 * used.len();
+    fill_sky_column(term, pier, sheets, used, s, &mut v[..rows]);
+    subtract_scaled(v, 0, rows, rows, c);
+}
+
+// From b, the contributions of all terms whose coefficient is not 0 are taken.
+pub fn subtract_all_contributions(
+    names: &[u8],
+    pier: &[u8],
+    sheets: &[f64],
+    used: &[u16],
+    s: Settings,
+    coefficients: &[f64],
+    v: &mut [f64],
+)
+    ghost { List Star }
+    requires { λ ss. ⌜ sightsAt (now pier) (now sheets) (now used) ≡ ss ⌝ }
+    requires { λ _. ⌜ Seen (now pier) (now sheets) (now used) × (length (now coefficients) ≤ maxTerms)
+        × (length (now names) ≡ slotBytes * length (now coefficients)) × (length (now v) ≡ 4 * length (now used)) ⌝ }
+    ensures { λ ss _. ⌜ part (now (v .exit)) (2 * length (now (used .entry))) (2 * length (now (used .entry)))
+        ≡ subtractAll (length (now (coefficients .entry))) (at (now (coefficients .entry))) (λ j. skyColumn s ss (termAt (now (names .entry)) j))
+        (part (now (v .entry)) (2 * length (now (used .entry))) (2 * length (now (used .entry)))) ⌝ }
+{
+    for j in 0..coefficients.len() {
+        let c = coefficients[j];
+        if c != 0.0 {
+            subtract_sky_column(term_at(names, j), pier, sheets, used, s, c, v);
         }
     }
-    count
+}
+
+// The product of all columns with coefficients.
+pub fn product(
+    names: &[u8],
+    pier: &[u8],
+    sheets: &[f64],
+    used: &[u16],
+    s: Settings,
+    coefficients: &[f64],
+    v: &mut [f64],
+)
+    ghost { List Star }
+    requires { λ ss. ⌜ sightsAt (now pier) (now sheets) (now used) ≡ ss ⌝ }
+    requires { λ _. ⌜ Seen (now pier) (now sheets) (now used) × (length (now coefficients) ≤ maxTerms)
+        × (length (now names) ≡ slotBytes * length (now coefficients)) × (length (now v) ≡ 4 * length (now used)) ⌝ }
+    ensures { λ ss _. ⌜ part (now (v .exit)) (2 * length (now (used .entry))) (2 * length (now (used .entry)))
+        ≡ productOf (2 * length (now (used .entry))) (length (now (coefficients .entry))) (at (now (coefficients .entry)))
+        (λ j. column s ss (termAt (now (names .entry)) j)) ⌝ }
+{
+    let rows = 2 * used.len();
+    sequence::fill(&mut v[rows..], 0.0);
+    for j in 0..coefficients.len() {
+        add_column(term_at(names, j), pier, sheets, used, s, coefficients[j], v);
+    }
+}
+
+// The same, where a coefficient that is 0 is skipped.
+pub fn predict(
+    names: &[u8],
+    pier: &[u8],
+    sheets: &[f64],
+    used: &[u16],
+    s: Settings,
+    set: &[f64],
+    v: &mut [f64],
+)
+    ghost { List Star }
+    requires { λ ss. ⌜ sightsAt (now pier) (now sheets) (now used) ≡ ss ⌝ }
+    requires { λ _. ⌜ Seen (now pier) (now sheets) (now used) × (length (now set) ≤ maxTerms)
+        × (length (now names) ≡ slotBytes * length (now set)) × (length (now v) ≡ 4 * length (now used)) ⌝ }
+    ensures { λ ss _. ⌜ part (now (v .exit)) (2 * length (now (used .entry))) (2 * length (now (used .entry)))
+        ≡ predicted (2 * length (now (used .entry))) (length (now (set .entry))) (at (now (set .entry))) (λ j. column s ss (termAt (now (names .entry)) j)) ⌝ }
+{
+    let rows = 2 * used.len();
+    sequence::fill(&mut v[rows..], 0.0);
+    for j in 0..set.len() {
+        let c = set[j];
+        if c != 0.0 {
+            add_column(term_at(names, j), pier, sheets, used, s, c, v);
+        }
+    }
+}
+
+// ---- the free terms' columns on the sky, weighed by the residuals that lie at 6·n
+
+// That of a term, at x.
+fn weighed_column(
+    term: Term,
+    pier: &[u8],
+    sheets: &[f64],
+    used: &[u16],
+    s: Settings,
+    k: f64,
+    w: &mut [f64],
+    x: usize,
+)
+    ghost { List Star }
+    requires { λ ss. ⌜ sightsAt (now pier) (now sheets) (now used) ≡ ss ⌝ }
+    requires { λ _. ⌜ Seen (now pier) (now sheets) (now used) × Apart x (2 * length (now used)) (6 * length (now used))
+        × (x + 2 * length (now used) ≤ length (now w))
+        × (8 * length (now used) ≤ length (now w)) ⌝ }
+    ensures filled { λ ss _. ⌜ part (now (w .exit)) x (2 * length (now (used .entry)))
+        ≡ weighing k (part (now (w .entry)) (6 * length (now (used .entry))) (2 * length (now (used .entry)))) (skyColumn s ss term) ⌝ }
+    ensures only { λ _ _. ⌜ Only x (2 * length (now (used .entry))) (now (w .entry)) (now (w .exit)) ⌝ }
+{
+    let n = used.len();
+    let rows = 2 * n;
+    fill_sky_column(term, pier, sheets, used, s, &mut w[x..x + rows]);
+    weigh(w, x, 6 * n, rows, k);
+}
+
+// At 2·n, the product of the free columns with x.
+pub fn free_product(
+    names: &[u8],
+    free: &[u16],
+    pier: &[u8],
+    sheets: &[f64],
+    used: &[u16],
+    s: Settings,
+    k: f64,
+    x: &[f64; MAX_TERMS],
+    v: &mut [f64],
+)
+    ghost { List Star }
+    requires { λ ss. ⌜ sightsAt (now pier) (now sheets) (now used) ≡ ss ⌝ }
+    requires { λ _. ⌜ Seen (now pier) (now sheets) (now used) × (length (now free) ≤ maxTerms) × Named (now names) (now free)
+        × (length (now v) ≡ 8 * length (now used)) ⌝ }
+    ensures filled { λ ss _. ⌜ part (now (v .exit)) (2 * length (now (used .entry))) (2 * length (now (used .entry)))
+        ≡ productOf (2 * length (now (used .entry))) (length (now (free .entry))) (at (now (x .entry))) (extracted (now (free .entry))
+        (weighedAt k (part (now (v .entry)) (6 * length (now (used .entry))) (2 * length (now (used .entry)))) s ss (now (names .entry)))) ⌝ }
+    ensures only { λ _ _. ⌜ Only 0 (4 * length (now (used .entry))) (now (v .entry)) (now (v .exit)) ⌝ }
+{
+    let rows = 2 * used.len();
+    sequence::fill(&mut v[rows..rows + rows], 0.0);
+    for i in 0..free.len() {
+        let t = term_at(names, sequence::index(free[i]));
+        weighed_column(t, pier, sheets, used, s, k, v, 0);
+        add_scaled(v, 0, rows, rows, x[i]);
+    }
+}
+
+// From c on, the free columns, of h numbers each, with zeros below their rows.
+pub fn free_columns(
+    names: &[u8],
+    free: &[u16],
+    pier: &[u8],
+    sheets: &[f64],
+    used: &[u16],
+    s: Settings,
+    k: f64,
+    w: &mut [f64],
+    c: usize,
+    h: usize,
+)
+    ghost { List Star }
+    requires { λ ss. ⌜ sightsAt (now pier) (now sheets) (now used) ≡ ss ⌝ }
+    requires { λ _. ⌜ Seen (now pier) (now sheets) (now used) × (length (now free) ≤ maxTerms) × Named (now names) (now free) × (2 * length (now used) ≤ h)
+        × (h ≤ 4096) × (8 * length (now used) ≤ c) × (c + length (now free) * h ≤ length (now w)) ⌝ }
+    ensures filled { λ ss _. ⌜ part (now (w .exit)) c (length (now (free .entry)) * h)
+        ≡ stacked h (map
+        (weighedAt k (part (now (w .entry)) (6 * length (now (used .entry))) (2 * length (now (used .entry)))) s ss (now (names .entry)))
+        (now (free .entry))) ⌝ }
+    ensures only { λ _ _. ⌜ Only c (length (now (free .entry)) * h) (now (w .entry)) (now (w .exit)) ⌝ }
+{
+    let rows = 2 * used.len();
+    let below = h - rows;
+    for i in 0..free.len() {
+        let x = c + i * h;
+        let t = term_at(names, sequence::index(free[i]));
+        weighed_column(t, pier, sheets, used, s, k, w, x);
+        let z = x + rows;
+        sequence::fill(&mut w[z..z + below], 0.0);
+    }
 }

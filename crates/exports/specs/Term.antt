@@ -4,6 +4,7 @@ use mathlib.Core.Bool.{cond}
 use mathlib.Core.List.{List, map}
 use lib.Dec.{eqb}
 use lib.ListN.{replicate}
+use Rattle.limits.specs.Limits.{slotBytes}
 use Rattle.equatorial.specs.declared.EquatorialTerm.{EquatorialTerm}
 use Rattle.equatorial.specs.declared.EquatorialTerm.the-variants.{IH, ID, CH, NP, MA, ME, TF, TX, TXN, DAF, FO, HCES, HCEC, DCES, DCEC}
 use Rattle.harmonic.specs.declared.TrigFunc.{TrigFunc}
@@ -121,7 +122,7 @@ noTerm k = record {
   number = 0;
   result = 0;
   count = 0;
-  name = replicate 16 0;
+  name = replicate slotBytes 0;
   functions = replicate 7 0;
   coordinates = replicate 7 0;
   frequencies = replicate 7 0;

@@ -8,7 +8,7 @@ ghost use Rattle.sqrt.specs.Sqrt as Root;
 ghost use Rattle.terms.specs.Names.{readTerm};
 ghost use Rattle.terms.specs.Jacobian.{jacobianOf};
 ghost use Rattle.model.specs.Correction.{correctionAt, breakdownAt};
-ghost use Rattle.solver.specs.Call.{inputs, buffers};
+ghost use Rattle.solver.specs.Call.{settingsOf, inputs, buffers};
 ghost use Rattle.single_step.specs.SingleStep.{fitOutcome};
 ghost use Rattle.iterated.specs.Iterated.{iteratedOutcome};
 ghost use Rattle.exports.specs.Scratch.{scratchLength};
@@ -27,10 +27,13 @@ use crate::point::correction_answer;
 use crate::point::pair_answer;
 use crate::term::TermAnswer;
 use crate::term::term_answer;
+use limits::MAX_STARS;
+use limits::MAX_TERMS;
 use model::Breakdown;
 use model::point::breakdown_at;
 use model::point::correction_at;
 use solver::IterOptions;
+use solver::Settings;
 
 // The square root, correctly rounded.
 #[no_mangle]
@@ -52,13 +55,13 @@ pub struct ScratchLength {
 pub extern "C" fn pointing_scratch_length(m: usize, n: usize) -> ScratchLength
     ensures { λ r. ⌜ r ≡ scratchLength m n ⌝ }
 {
-    if 32 < m {
+    if MAX_TERMS < m {
         return ScratchLength {
             refusal: 1,
             length: 0,
         };
     }
-    if 1024 < n {
+    if MAX_STARS < n {
         return ScratchLength {
             refusal: 1,
             length: 0,
@@ -102,7 +105,8 @@ pub extern "C" fn pointing_apply_equatorial(
     cos_lat: f64,
     pier: u8,
 ) -> PairAnswer
-    ensures { λ r. ⌜ r ≡ correctionAnswer (correctionAt (length (now (coefficients .entry))) (now (names .entry)) (now (coefficients .entry)) (now (sheet .entry)) «sin_lat» «cos_lat» pier) ⌝ }
+    ensures { λ r. ⌜ r ≡ correctionAnswer (correctionAt (length (now (coefficients .entry))) (now (names .entry)) (now (coefficients .entry))
+        (now (sheet .entry)) «sin_lat» «cos_lat» pier) ⌝ }
 {
     correction_answer(correction_at(names, coefficients, sheet, sin_lat, cos_lat, pier))
 }
@@ -117,7 +121,8 @@ pub extern "C" fn pointing_predict_breakdown(
     cos_lat: f64,
     pier: u8,
 ) -> Breakdown
-    ensures { λ r. ⌜ r ≡ breakdownAt (length (now (coefficients .entry))) (now (names .entry)) (now (coefficients .entry)) (now (sheet .entry)) «sin_lat» «cos_lat» pier ⌝ }
+    ensures { λ r. ⌜ r ≡ breakdownAt (length (now (coefficients .entry))) (now (names .entry)) (now (coefficients .entry))
+        (now (sheet .entry)) «sin_lat» «cos_lat» pier ⌝ }
 {
     breakdown_at(names, coefficients, sheet, sin_lat, cos_lat, pier)
 }
@@ -142,9 +147,15 @@ pub extern "C" fn pointing_fit_model(
     scratch: &mut [f64],
 ) -> FitAnswer
     ensures { λ r. ⌜ exported r (buffers (now (out .exit)) (now (change .exit)) (now (sigma .exit)) (now (diagnostics .exit)) (now (scratch .exit)))
-        ≡ exportedOf (fitOutcome (inputs (now (names .entry)) (now (fixed .entry)) (now (coefficients .entry)) (now (dh .entry)) (now (dd .entry)) (now (pier .entry)) (now (sheets .entry)) «sin_lat» «cos_lat» «fit_tol»)
+        ≡ exportedOf (fitOutcome (inputs (now (names .entry)) (now (fixed .entry)) (now (coefficients .entry)) (now (dh .entry)) (now (dd .entry))
+        (now (pier .entry)) (now (sheets .entry)) (settingsOf «sin_lat» «cos_lat» «fit_tol»))
         (buffers (now (out .entry)) (now (change .entry)) (now (sigma .entry)) (now (diagnostics .entry)) (now (scratch .entry)))) ⌝ }
 {
+    let settings = Settings {
+        sin_lat,
+        cos_lat,
+        fit_tol,
+    };
     answer(single_step::fit_model(
         names,
         fixed,
@@ -153,9 +164,7 @@ pub extern "C" fn pointing_fit_model(
         dd,
         pier,
         sheets,
-        sin_lat,
-        cos_lat,
-        fit_tol,
+        settings,
         out,
         change,
         sigma,
@@ -185,11 +194,18 @@ pub extern "C" fn pointing_fit_model_iterated(
     scratch: &mut [f64],
 ) -> FitAnswer
     ensures whole { λ r. ⌜ exported r (buffers (now (out .exit)) (now (change .exit)) (now (sigma .exit)) (now (diagnostics .exit)) (now (scratch .exit)))
-        ≡ exportedOf (iteratedOutcome (inputs (now (names .entry)) (now (fixed .entry)) (now (coefficients .entry)) (now (dh .entry)) (now (dd .entry)) (now (pier .entry)) (now (sheets .entry)) «sin_lat» «cos_lat» «fit_tol»)
+        ≡ exportedOf (iteratedOutcome (inputs (now (names .entry)) (now (fixed .entry)) (now (coefficients .entry)) (now (dh .entry)) (now (dd .entry))
+        (now (pier .entry)) (now (sheets .entry)) (settingsOf «sin_lat» «cos_lat» «fit_tol»))
         options (buffers (now (out .entry)) (now (change .entry)) (now (sigma .entry)) (now (diagnostics .entry)) (now (scratch .entry)))) ⌝ }
-    ensures best { λ r. ⌜ BestWhereGiven (inputs (now (names .entry)) (now (fixed .entry)) (now (coefficients .entry)) (now (dh .entry)) (now (dd .entry)) (now (pier .entry)) (now (sheets .entry)) «sin_lat» «cos_lat» «fit_tol»)
+    ensures best { λ r. ⌜ BestWhereGiven (inputs (now (names .entry)) (now (fixed .entry)) (now (coefficients .entry)) (now (dh .entry)) (now (dd .entry))
+        (now (pier .entry)) (now (sheets .entry)) (settingsOf «sin_lat» «cos_lat» «fit_tol»))
         options r (now (out .exit)) ⌝ }
 {
+    let settings = Settings {
+        sin_lat,
+        cos_lat,
+        fit_tol,
+    };
     answer(iterated::fit_model_iterated(
         names,
         fixed,
@@ -198,9 +214,7 @@ pub extern "C" fn pointing_fit_model_iterated(
         dd,
         pier,
         sheets,
-        sin_lat,
-        cos_lat,
-        fit_tol,
+        settings,
         options,
         out,
         change,

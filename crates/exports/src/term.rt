@@ -2,12 +2,14 @@
 
 ghost use mathlib.Core.Path.{_≡_};
 ghost use Prim.Native.Nat.{_≤_};
-ghost use Rattle.exports.specs.Term.{equatorialCode, txnNumber, resultCode, kindCode, numberOf, resultOf, functionCode, coordinateCode, componentCodes, noTerm, termAnswer};
+ghost use Rattle.exports.specs.Term.{equatorialCode, txnNumber, resultCode, kindCode, numberOf};
+ghost use Rattle.exports.specs.Term.{resultOf, functionCode, coordinateCode, componentCodes, noTerm, termAnswer};
 use equatorial::EquatorialTerm;
 use harmonic::Coordinate;
 use harmonic::HarmonicComponent;
 use harmonic::ResultType;
 use harmonic::TrigFunc;
+use limits::SLOT;
 use terms::Reading;
 use terms::TermKind;
 
@@ -23,7 +25,7 @@ pub struct TermAnswer {
     pub result: u8,
     // how many components it has, with zeros behind them
     pub count: u8,
-    pub name: [u8; 16],
+    pub name: [u8; SLOT],
     pub functions: [u8; 7],
     pub coordinates: [u8; 7],
     pub frequencies: [u8; 7],
@@ -172,7 +174,7 @@ fn no_term(k: u8) -> TermAnswer
         number: 0,
         result: 0,
         count: 0,
-        name: [0u8; 16],
+        name: [0u8; SLOT],
         functions: [0u8; 7],
         coordinates: [0u8; 7],
         frequencies: [0u8; 7],

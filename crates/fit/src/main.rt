@@ -1,11 +1,11 @@
 // The file program: a file on standard input, its listing on standard output (docs/SCOPE.md 11).
 
 use listing::LISTING;
+use pmf::FILE_ROOM;
 
-// The longest file has 31,775 bytes: one byte more tells a longer one, whose listing asks for no other byte (`cut-listed`,
-// pmf/proofs/Long.antt).
-fn file_room() -> [u8; 31776] {
-    [0u8; 31776]
+// One byte more than the longest file has tells a longer one, whose listing asks for no other byte (`cut-listed`, pmf/proofs/Long.antt).
+fn file_room() -> [u8; FILE_ROOM] {
+    [0u8; FILE_ROOM]
 }
 
 // Reads standard input to its end.
@@ -24,7 +24,7 @@ fn main() {
     let mut file = file_room();
     let mut text = [0u8; LISTING];
     let n = io::read_full(libc::STDIN_FILENO, &mut file);
-    if n == 31776 {
+    if n == FILE_ROOM {
         read_on();
     }
     let k = pmf::list(&file[..n], &mut text);

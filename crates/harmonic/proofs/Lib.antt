@@ -1,6 +1,5 @@
 pub mod Lookup
 pub mod Steps
 pub mod Reading
-pub mod Arrays
 pub mod Product
 pub mod Whole

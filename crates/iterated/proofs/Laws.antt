@@ -1,194 +1,228 @@
 -- A trial by its test, a turn of the loop by the trial's answer, and what they leave in scratch, as code meets them. Assumes nothing.
 use Prim.Native.Nat.{ℕ, _+_, _-_, _*_, _≤_, _<_}
 use native.Mathlib.Omega.{arith}
-use mathlib.Core.Path.{_≡_, refl, sym, ap, _∙_, subst}
-use mathlib.Core.Bool.{true, false}
-use mathlib.Core.List.{List, zipWith}
-use lib.ListN.{length, take}
-use lib.Ieee.{Float, binary64, sub, lt, le}
+use mathlib.Core.Path.{_≡_, refl, sym, ap, _∙_}
+use mathlib.Core.Bool.{Bool, true, false}
+use mathlib.Core.List.{List, map, zipWith}
+use lib.ListN.{length, take, length-map, length-take}
+use lib.Ieee.{Float, inf, binary64, sub, lt, le}
 use Rattle.float.specs.Float.{_⊗_, _⊘_, #0}
-use Rattle.sequence.specs.Sequence.{at, part, filled, Only}
-use Rattle.sequence.proofs.Fills.{table-length, filled-length, filled-all, take-filled, table-front}
-use Rattle.sequence.proofs.Only.{only-wider, only-then}
-use Rattle.column.specs.Column.{zeros}
+use Rattle.sequence.specs.Sequence.{at, part}
+use Rattle.sequence.proofs.Parts.{part-take}
 use Rattle.best.specs.Trials.{after}
-use Rattle.best.proofs.Turns.{goes-on, is-left}
+use Rattle.best.proofs.Turns.{begins, goes-on, is-left, ran-out}
 use Rattle.linalg.specs.declared.SolveOutcome.{SolveOutcome}
 use Rattle.linalg.specs.Linalg.{Solved}
 use Rattle.solver.specs.declared.IterOptions.{IterOptions}
-use Rattle.solver.specs.Call.{FitInputs}
-use Rattle.design.specs.Design as Design
-use Rattle.design.specs.Design.{freeCount, freeProduct}
-use Rattle.products.specs.Products.{weighedTo}
-use Rattle.outcome.specs.Outcome.{heightOf, Fits}
-use Rattle.outcome.proofs.Laws.{skyTo-at, sky-same}
-use Rattle.lm_system.specs.System.{residuals, skyResiduals, weighedResiduals, weighedColumn, huberK, lmStep, movedAt, moved, stepNorm, Left, LmStepped}
+use Rattle.design.specs.Design.{RunInputs, runInputs, runFrom, sightsAt, termAt, product, extracted, weighedAt}
+use Rattle.design.specs.Counted.{Counted}
+use Rattle.design.proofs.Runs.{count-is, rows-are}
+use Rattle.outcome.specs.Scratch.{countOf, heightIn, residualsIn, bIn, skyIn, solvedIn, Fits}
+use Rattle.outcome.proofs.Front.{renewed, Renewed, front-part, front-above}
+use Rattle.outcome.proofs.Runs.{weighed-are}
+use Rattle.lm_system.specs.System.{residualsUnder, skyResiduals, chi2At, huberFrom, huberK, weighedResiduals, lmStep, moved, stepNorm}
 use Rattle.iterated.specs.declared.Trial.{Trial}
 use Rattle.iterated.specs.declared.Trial.the-variants.{Accepted, Rejected}
-use Rattle.iterated.specs.Iterated.{under, chi2At, Tried, triedTo, trialOf, Report, report, lambdaLimit, answered, leaves, trials, lastStep, lastSet, lastChi2, freeResiduals, Within, Proposed, LastTried}
+use Rattle.iterated.specs.Iterated.{stepFrom, proposal, Tried, triedTo, trialOf, Report, report, lambdaLimit, answered, leaves, trials, begin, lmLoop}
+use Rattle.iterated.proofs.Best.{moved-length}
+use Rattle.iterated.specs.Iterated.{lastSet, lastChi2, freeResiduals, Left, Proposed, LastTried}
 
--- the same call with another set
-pub fits-under : (l : FitInputs) (s w v : List Float) → Fits l w → length s ≡ length (l .coefficients) → length v ≡ length w → Fits (under l s) v
-fits-under l s w v f e long =
-    let same : heightOf (under l s) ≡ heightOf l = ap (λ (m : ℕ). 2 * length (l .dh) + 2 * m) e in
+-- ---- arrays
+
+-- one that a function's answer holds
+pub array-long : (xs : List Float) (n : ℕ) → length (map (λ (v : Float). v) xs) ≡ n → length xs ≡ n
+array-long xs n e = sym (length-map xs (λ (v : Float). v)) ∙ e
+
+-- the front of one that is a set of as many numbers
+pub set-front : (free : List ℕ) (x s t : List Float) → take (length s) t ≡ moved free x s → (length (take (length s) t) ≡ length s) × (length s ≤ length t)
+set-front free x s t e =
+    let long : length (take (length s) t) ≡ length s = ap length e ∙ moved-length free x s in
+    (long, omega (arith, length-take (length s) t))
+
+-- ---- scratch whose front, k numbers, has come back as ys
+
+module _ {l : RunInputs} (c : Counted l) {w ys : List Float} {k : ℕ} (r : Renewed w ys k) where
+  -- it holds the residuals
+  pub left-front : (x : List Float) → 4 * countOf l ≤ k → residualsIn l ys ≡ x → residualsIn l (renewed w ys k) ≡ x
+  left-front x h e = front-part r (2 * countOf l) (2 * countOf l) (omega arith) ∙ e
+
+  above : (i n : ℕ) → k ≤ i → part (renewed w ys k) i n ≡ part w i n
+  above i n h = ap (take n) (front-above r i h)
+
+  -- what is solved lies behind it
+  pub solved-front : (o : SolveOutcome) → k ≤ 8 * countOf l → solvedIn l (renewed w ys k) o ≡ solvedIn l w o
+  solved-front o h = ap (λ (u : List Float). record { outcome = o; w = u }) (above (8 * countOf l) (length (l .free) * heightIn l) h)
+
+-- ---- no residual knows how many terms there are
+
+abbrev pub others : RunInputs → ℕ → RunInputs
+others l m = runInputs m (l .names) (l .free) (l .dh) (l .dd) (l .pier) (l .sheets) (l .used) (l .settings)
+
+pub residuals-same : (l : RunInputs) (m : ℕ) (s : List Float) → residualsUnder (runFrom (others l m)) s ≡ residualsUnder (runFrom l) s
+unfolding residualsUnder
+residuals-same l m s = refl
+
+chi2-same : (l : RunInputs) (m : ℕ) (s : List Float) → chi2At (runFrom (others l m)) s ≡ chi2At (runFrom l) s
+unfolding chi2At skyResiduals residualsUnder
+chi2-same l m s = refl
+
+-- ---- a proposal: w after the step, whose front comes back as ys from the chi-square of the set that it leads to
+
+pub proposes : {l : RunInputs} (c : Counted l) (k lambda : Float) (s w ys set : List Float) (chi2 : Float) (a : SolveOutcome) → Renewed w ys (4 * countOf l)
+    → (solvedIn l w a ≡ lmStep (runFrom l) k lambda s)
+    × ((bIn l w ≡ weighedResiduals (runFrom l) k s) × (skyIn l w ≡ skyResiduals (runFrom l) s))
+    → take (length s) set ≡ moved (l .free) (a .x) s
+    → (chi2 ≡ chi2At (runFrom (others l (length (take (length s) set)))) (take (length s) set))
+    × (residualsIn l ys ≡ residualsUnder (runFrom (others l (length (take (length s) set)))) (take (length s) set))
+    → Proposed l k lambda s (renewed w ys (4 * countOf l)) set chi2 a
+proposes {l} c k lambda s w ys set chi2 a r p e q =
+    let n = countOf l in
+    let t = take (length s) set in
     record {
-      terms = rw e (f .terms);
-      stars = f .stars;
-      names-count = rw e (f .names-count);
-      fixed-count = rw e (f .fixed-count);
-      dd-count = f .dd-count;
-      pier-count = f .pier-count;
-      sheets-count = f .sheets-count;
-      some-free = f .some-free;
-      room = rw (same, e, long) (f .room);
+      solution = solved-front c r a (omega arith) ∙ p .0;
+      b = above c r (4 * n) (2 * n) (omega arith) ∙ p .1 .0;
+      sky = above c r (6 * n) (2 * n) (omega arith) ∙ p .1 .1;
+      trial = e;
+      chi2-is = q .0 ∙ chi2-same l (length t) t ∙ ap (chi2At (runFrom l)) e;
+      left = left-front c r _ (omega arith) (q .1) ∙ residuals-same l (length t) t ∙ ap (residualsUnder (runFrom l)) e;
     }
 
--- scratch after one more step from a set of as many coefficients
-pub within-next : (l : FitInputs) (s w₀ w w′ : List Float) → length s ≡ length (l .coefficients) → Within l w₀ w → Within (under l s) w w′ → Within l w₀ w′
-within-next l s w₀ w w′ e o p =
-    let size : length s * heightOf (under l s) ≡ length (l .coefficients) * heightOf l = ap (λ (m : ℕ). m * (2 * length (l .dh) + 2 * m)) e in
-    let p′ : Within l w w′ = subst (λ (k : ℕ). Only 0 (8 * length (l .dh) + k) w w′) size p in
-    only-then 0 (8 * length (l .dh) + length (l .coefficients) * heightOf l) w₀ w w′ o p′
+-- ---- a trial from the set s, whose proposal is given
 
--- where the first stars' parts alone have changed
-pub within-front : (l : FitInputs) (w w′ : List Float) → Only 0 (4 * length (l .dh)) w w′ → Within l w w′
-within-front l w w′ o = only-wider 0 (4 * length (l .dh)) 0 (8 * length (l .dh) + length (l .coefficients) * heightOf l) w w′ (omega arith) (omega arith) o
+module _ {l : RunInputs} {k lambda : Float} {s w set : List Float} {next : Float} {a : SolveOutcome} (p : Proposed l k lambda s w set next a)
+    (o : IterOptions) (chi2 : Float) (ek : k ≡ huberFrom (countOf l) (length (l .free)) o chi2) where
+  k-is : k ≡ huberK (runFrom l) o chi2
+  k-is = ek ∙ ap (λ (n : ℕ). huberFrom n (length (l .free)) o chi2) (count-is l)
 
-pub moved-length : (fixed : List ℕ) (x s : List Float) → length (moved fixed x s) ≡ length s
-unfolding moved
-moved-length fixed x s = table-length (movedAt fixed x s) (length s)
+  solution-is : solvedIn l w a ≡ stepFrom (runFrom l) o chi2 lambda s
+  solution-is = p .solution ∙ ap (λ (z : Float). lmStep (runFrom l) z lambda s) k-is
 
--- the first m places of what trial_state_from gives
-pub moved-front : (fixed : List ℕ) (x s t : List Float) → t ≡ filled (length s) (movedAt fixed x s) zeros → take (length s) t ≡ moved fixed x s
-unfolding moved
-moved-front fixed x s t e = ap (take (length s)) e ∙ take-filled (movedAt fixed x s) (length s) zeros
+  x-is : a .x ≡ stepFrom (runFrom l) o chi2 lambda s .outcome .x
+  x-is = ap (λ (z : Solved). z .outcome .x) solution-is
 
--- ---- a proposal: w₁ after the step, w₂ after the chi-square of the set that it leads to
+  trial-is : take (length s) set ≡ proposal (runFrom l) o chi2 lambda s
+  trial-is = p .trial ∙ ap (λ (x : List Float). moved (l .free) x s) x-is
 
-pub proposes : (l : FitInputs) (k lambda : Float) (w w₁ w₂ set : List Float) (chi2 : Float) (a : SolveOutcome) → Fits l w → LmStepped l k lambda w w₁ a
-    → set ≡ filled (length (l .coefficients)) (movedAt (l .fixed) (a .x) (l .coefficients)) zeros
-    → (chi2 ≡ chi2At l (take (length (l .coefficients)) set)) × Left (under l (take (length (l .coefficients)) set)) w₂ × Only 0 (4 * length (l .dh)) w₁ w₂
-    → Proposed l k lambda w w₂ set chi2 a
-proposes l k lambda w w₁ w₂ set chi2 a f st e p =
-    let n = length (l .dh) in
-    let m = length (l .coefficients) in
-    let all = 8 * n + m * heightOf l in
-    let front = moved-front (l .fixed) (a .x) (l .coefficients) set e in
-    record {
-      step = record {
-        solution = ap (λ (u : List Float). record { outcome = a; w = u }) (p .2 .above (8 * n) (freeCount (l .fixed) * heightOf l) (omega arith)) ∙ st .solution;
-        b = p .2 .above (4 * n) (2 * n) (omega arith) ∙ st .b;
-        sky = p .2 .above (6 * n) (2 * n) (omega arith) ∙ st .sky;
-        only = only-then 0 all w w₁ w₂ (st .only) (only-wider 0 (4 * n) 0 all w₁ w₂ (omega arith) (omega arith) (p .2));
-      };
-      trial = front;
-      long = ap length e ∙ filled-length (movedAt (l .fixed) (a .x) (l .coefficients)) m zeros (f .terms);
-      chi2-is = p .0 ∙ ap (chi2At l) front;
-      left = p .1 ∙ ap (λ (s : List Float). residuals (under l s)) front;
-    }
+  next-is : next ≡ chi2At (runFrom l) (proposal (runFrom l) o chi2 lambda s)
+  next-is = p .chi2-is ∙ ap (λ (x : List Float). chi2At (runFrom l) (moved (l .free) x s)) x-is
 
--- what `copy` puts in the place of a set of as many numbers
-pub copied : (m : ℕ) (t s s′ : List Float) → m ≤ length t → length s ≡ m → s′ ≡ filled m (at t) s → s′ ≡ take m t
-copied m t s s′ h e q = q ∙ filled-all (at t) m s (omega arith) ∙ table-front m t h
-
--- ---- a trial from the set in hand, the coefficients of l, whose proposal is given
-
-module _ (l : FitInputs) (o : IterOptions) (chi2 lambda k : Float) (ek : k ≡ huberK l o chi2) (w w′ set : List Float) (next : Float) (a : SolveOutcome) (f : Fits l w)
-    (p : Proposed l k lambda w w′ set next a) where
-  x-is : a .x ≡ lmStep l (huberK l o chi2) lambda .outcome .x
-  x-is = ap (λ (s : Solved). s .outcome .x) (p .step .solution) ∙ ap (λ (z : Float). lmStep l z lambda .outcome .x) ek
-
-  trial-is : moved (l .fixed) (a .x) (l .coefficients) ≡ moved (l .fixed) (lmStep l (huberK l o chi2) lambda .outcome .x) (l .coefficients)
-  trial-is = ap (λ (x : List Float). moved (l .fixed) x (l .coefficients)) x-is
-
-  next-is : next ≡ chi2At l (moved (l .fixed) (lmStep l (huberK l o chi2) lambda .outcome .x) (l .coefficients))
-  next-is = p .chi2-is ∙ ap (chi2At l) trial-is
-
-  set-is : (s′ : List Float) → s′ ≡ filled (length (l .coefficients)) (at set) (l .coefficients) → s′ ≡ moved (l .fixed) (lmStep l (huberK l o chi2) lambda .outcome .x) (l .coefficients)
-  set-is s′ e = copied (length (l .coefficients)) set (l .coefficients) s′ (omega (arith, p .long, f .terms)) refl e ∙ p .trial ∙ trial-is
-
-  pub accepted : (norm : Float) (s′ : List Float) → lt next chi2 ≡ true → norm ≡ stepNorm (l .names) (l .fixed) (a .x)
-      → s′ ≡ filled (length (l .coefficients)) (at set) (l .coefficients) → triedTo (Accepted next norm) s′ ≡ trialOf l o chi2 lambda (l .coefficients)
+  -- it is kept, and its residuals lie there
+  pub accepted : (norm : Float) (s′ : List Float) → lt next chi2 ≡ true → norm ≡ stepNorm (termAt (l .names)) (l .free) (take (length (l .free)) (a .x))
+      → s′ ≡ take (length s) set → (triedTo (Accepted next norm) s′ ≡ trialOf (runFrom l) o chi2 lambda s) × Left l s′ w
   unfolding trialOf
-  accepted norm s′ h en es = rw (← next-is, h, ← x-is, ← en, set-is s′ es, x-is, next-is)
+  accepted norm s′ h en es = (rw (es ∙ trial-is, en, x-is, ← next-is, h) refl, p .left ∙ ap (residualsUnder (runFrom l)) (sym (es ∙ p .trial)))
 
-  -- where the residuals of the proposal lie, those of the set lie
-  pub accepted-left-by : (s′ : List Float) → s′ ≡ filled (length (l .coefficients)) (at set) (l .coefficients) → Left (under l s′) w′
-  accepted-left-by s′ e = p .left ∙ ap (λ (s : List Float). residuals (under l s)) (sym (copied (length (l .coefficients)) set (l .coefficients) s′ (omega (arith, p .long, f .terms)) refl e ∙ p .trial))
-
-  pub rejected : lt next chi2 ≡ false → triedTo (Rejected (lambda ⊗ o .«lambda_up»)) (l .coefficients) ≡ trialOf l o chi2 lambda (l .coefficients)
+  pub rejected : lt next chi2 ≡ false → triedTo (Rejected (lambda ⊗ o .«lambda_up»)) s ≡ trialOf (runFrom l) o chi2 lambda s
   unfolding trialOf
   rejected h = rw (← next-is, h)
 
--- the same with the start in the place of the coefficients
-pub trial-same : (l : FitInputs) (s : List Float) (o : IterOptions) (chi2 lambda : Float) → trialOf (under l s) o chi2 lambda s ≡ trialOf l o chi2 lambda s
-unfolding trialOf
-trial-same l s o chi2 lambda = refl
+-- ---- the loop: after i turns it holds a set and how it came to it, and what is left of it comes to what the whole comes to
 
--- ---- the loop holds a report, and a trial from it gave r and left the set y
+pub record Looping (l : RunInputs) (o : IterOptions) (s₀ : List Float) (size : ℕ) (s w : List Float) (i : ℕ) (converged : Bool) (lambda norm chi2 : Float)
+    : Type 0 where
+  pub few : i ≤ o .«max_iter»
+  pub long : length s ≡ l .m
+  pub room : length w ≡ size
+  pub not-yet : converged ≡ false
+  pub comes : lmLoop (runFrom l) o s₀ ≡ after (trials (runFrom l) o) (o .«max_iter» - i) (report s i false lambda norm chi2)
+  pub left : Left l s w
 
-module _ (l : FitInputs) (o : IterOptions) (whole : Report) (set : List Float) (chi2 lambda norm : Float) (i : ℕ) (more : i < o .«max_iter»)
-    (inv : whole ≡ after (trials l o) (o .«max_iter» - i) (report set i false lambda norm chi2)) (r : Trial) (y : List Float) (did : triedTo r y ≡ trialOf l o chi2 lambda set) where
-  turned : answered o (report set i false lambda norm chi2) r y ≡ trials l o .turn (report set i false lambda norm chi2)
-  turned = ap (λ (t : Tried). answered o (report set i false lambda norm chi2) (t .answer) (t .set)) did
+pub loop-begins : {l : RunInputs} (c : Counted l) (o : IterOptions) (s w : List Float) (norm chi2 : Float) → length s ≡ l .m → norm ≡ inf false
+    → chi2 ≡ chi2At (runFrom l) s → Left l s w → Looping l o s (length w) s w 0 false (o .«initial_lambda») norm chi2
+unfolding lmLoop
+loop-begins {l} c o s w norm chi2 long en ec left =
+    record {
+      few = omega arith;
+      long = long;
+      room = refl;
+      not-yet = refl;
+      comes = begins (trials (runFrom l) o) (o .«max_iter») (begin (runFrom l) o s) ∙ rw (en, ec);
+      left = left;
+    }
 
-  left-by : trials l o .ends (report set i false lambda norm chi2) ≡ leaves o r
-  left-by = sym (ap (λ (t : Tried). leaves o (t .answer)) did)
+module _ {l : RunInputs} {o : IterOptions} {s₀ : List Float} {size : ℕ} {s w : List Float} {i : ℕ} {converged : Bool} {lambda norm chi2 : Float}
+    (u : Looping l o s₀ size s w i converged lambda norm chi2) where
+  pub loop-ready : (w₀ : List Float) → Fits l w₀ → size ≡ length w₀ → Fits (others l (length s)) w × Left (others l (length s)) s w
+  loop-ready w₀ f e = rw (u .long) (record { counted = f .counted; room = rw (u .room, e) (f .room) }, u .left)
 
-  module _ (next size : Float) (is : r ≡ Accepted next size) where
-    pub accepted-on : lt size (o .«tol_rad») ≡ false → whole ≡ after (trials l o) (o .«max_iter» - (i + 1)) (report y (i + 1) false (lambda ⊘ o .«lambda_down») size next)
-    accepted-on h = goes-on (trials l o) (o .«max_iter») whole _ i more inv _ (rw (is, h) at turned) (rw (is, h) at left-by)
+  pub loop-left : (y w′ : List Float) → Left (others l (length s)) y w′ → Left l y w′
+  loop-left y w′ e = e ∙ residuals-same l (length s) y
 
-    pub accepted-left : lt size (o .«tol_rad») ≡ true → report y (i + 1) true (lambda ⊘ o .«lambda_down») size next ≡ whole
-    accepted-left h = is-left (trials l o) (o .«max_iter») whole _ i more inv _ (rw (is, h) at turned) (rw (is, h) at left-by)
+  pub loop-over : o .«max_iter» ≤ i → report s i converged lambda norm chi2 ≡ lmLoop (runFrom l) o s₀
+  loop-over h = rw (u .not-yet) (ran-out (trials (runFrom l) o) (o .«max_iter») _ _ i h (u .comes))
 
-  module _ (raised : Float) (is : r ≡ Rejected raised) where
-    pub rejected-on : lt lambdaLimit raised ≡ false → whole ≡ after (trials l o) (o .«max_iter» - (i + 1)) (report y (i + 1) false raised norm chi2)
-    rejected-on h = goes-on (trials l o) (o .«max_iter») whole _ i more inv _ (rw is at turned) (rw (is, h) at left-by)
+  -- a trial gave t and left the set y
+  module _ (more : i < o .«max_iter») (t : Trial) (y : List Float) (did : triedTo t y ≡ trialOf (runFrom (others l (length s))) o chi2 lambda s) where
+    tried : triedTo t y ≡ trialOf (runFrom l) o chi2 lambda s
+    tried = rw (u .long) at did
 
-    pub rejected-left : lt lambdaLimit raised ≡ true → report y (i + 1) false raised norm chi2 ≡ whole
-    rejected-left h = is-left (trials l o) (o .«max_iter») whole _ i more inv _ (rw is at turned) (rw (is, h) at left-by)
+    turned : answered o (report s i false lambda norm chi2) t y ≡ trials (runFrom l) o .turn (report s i false lambda norm chi2)
+    turned = ap (λ (z : Tried). answered o (report s i false lambda norm chi2) (z .answer) (z .set)) tried
 
--- ---- the last trial: its proposal, and the residuals that come after it
+    left-by : trials (runFrom l) o .ends (report s i false lambda norm chi2) ≡ leaves o t
+    left-by = sym (ap (λ (z : Tried). leaves o (z .answer)) tried)
 
-module _ (l : FitInputs) (o : IterOptions) (chi2 k : Float) (ek : k ≡ huberK l o chi2) (w w₁ w₂ set : List Float) (last : Float) (a : SolveOutcome) (f : Fits l w)
-    (p : Proposed l k #0 w w₁ set last a)
-    (q : (part w₂ (2 * length (l .pier)) (2 * length (l .pier)) ≡ zipWith (sub binary64) (part w₁ (4 * length (l .pier)) (2 * length (l .pier)))
-    (freeProduct (2 * length (l .pier)) (length (l .fixed)) (l .fixed) (a .x) (weighedTo k (part w₁ (6 * length (l .pier)) (2 * length (l .pier))) (l .sinLat) (l .cosLat) (l .names) (l .pier) (l .sheets))))
-    × Only 0 (2 * length (l .pier) + 2 * length (l .pier)) w₁ w₂) where
-  solution-is : record { outcome = a; w = part w₁ (8 * length (l .dh)) (freeCount (l .fixed) * heightOf l) } ≡ lastStep l o chi2 (l .coefficients)
-  solution-is = p .step .solution ∙ ap (λ (z : Float). lmStep l z #0) ek
+    -- and scratch w′
+    goes : (w′ : List Float) (lambda′ norm′ chi2′ : Float)
+        → report y (i + 1) false lambda′ norm′ chi2′ ≡ answered o (report s i false lambda norm chi2) t y → leaves o t ≡ false
+        → length y ≡ length s → length w′ ≡ length w → Left (others l (length s)) y w′ → Looping l o s₀ size y w′ (i + 1) converged lambda′ norm′ chi2′
+    goes w′ lambda′ norm′ chi2′ e h ly lw left =
+        record {
+          few = omega arith;
+          long = ly ∙ u .long;
+          room = lw ∙ u .room;
+          not-yet = u .not-yet;
+          comes = goes-on (trials (runFrom l) o) (o .«max_iter») _ _ i more (u .comes) _ (e ∙ turned) (left-by ∙ h);
+          left = loop-left y w′ left;
+        }
 
-  pub tried-last : (s′ : List Float) (least : Float) → (s′ ≡ lastSet l o chi2 (l .coefficients)) × (least ≡ lastChi2 l o chi2 (l .coefficients)) → LastTried l o chi2 (l .coefficients) w w₂ s′ least a
+    ends : (z : Report) → z ≡ answered o (report s i false lambda norm chi2) t y → leaves o t ≡ true → z ≡ lmLoop (runFrom l) o s₀
+    ends z e h = is-left (trials (runFrom l) o) (o .«max_iter») _ _ i more (u .comes) z (e ∙ turned) (left-by ∙ h)
+
+    module _ (next step : Float) (is : t ≡ Accepted next step) where
+      pub accepted-on : (w′ : List Float) → lt step (o .«tol_rad») ≡ false → length y ≡ length s → length w′ ≡ length w → Left (others l (length s)) y w′
+          → Looping l o s₀ size y w′ (i + 1) converged (lambda ⊘ o .«lambda_down») step next
+      accepted-on w′ h = goes w′ (lambda ⊘ o .«lambda_down») step next (rw (is, h) refl) (rw is h)
+
+      pub accepted-ends : lt step (o .«tol_rad») ≡ true → report y (i + 1) true (lambda ⊘ o .«lambda_down») step next ≡ lmLoop (runFrom l) o s₀
+      accepted-ends h = ends _ (rw (is, h) refl) (rw is h)
+
+    module _ (raised : Float) (is : t ≡ Rejected raised) where
+      pub rejected-on : (w′ : List Float) → lt lambdaLimit raised ≡ false → length y ≡ length s → length w′ ≡ length w → Left (others l (length s)) y w′
+          → Looping l o s₀ size y w′ (i + 1) converged raised norm chi2
+      rejected-on w′ h = goes w′ raised norm chi2 (rw is refl) (rw is h)
+
+      pub rejected-ends : lt lambdaLimit raised ≡ true → report y (i + 1) converged raised norm chi2 ≡ lmLoop (runFrom l) o s₀
+      rejected-ends h = ends _ (rw (is, u .not-yet) refl) (rw is h)
+
+-- ---- the last trial, whose proposal is given, and the residuals ys that come back after it
+
+module _ {l : RunInputs} {k : Float} {s w set : List Float} {last : Float} {a : SolveOutcome} (c : Counted l) (p : Proposed l k #0 s w set last a)
+    (o : IterOptions) (chi2 : Float) (ek : k ≡ huberFrom (countOf l) (length (l .free)) o chi2) where
+  pub last-kept : (s′ : List Float) → le last chi2 ≡ true → s′ ≡ take (length s) set
+      → (s′ ≡ lastSet (runFrom l) o chi2 s) × (last ≡ lastChi2 (runFrom l) o chi2 s)
+  unfolding lastSet lastChi2
+  last-kept s′ h e = (rw (← next-is p o chi2 ek, h) (e ∙ trial-is p o chi2 ek), rw (← next-is p o chi2 ek, h) refl)
+
+  pub last-not : le last chi2 ≡ false → (s ≡ lastSet (runFrom l) o chi2 s) × (chi2 ≡ lastChi2 (runFrom l) o chi2 s)
+  unfolding lastSet lastChi2
+  last-not h = (rw (← next-is p o chi2 ek, h) refl, rw (← next-is p o chi2 ek, h) refl)
+
+  pub tried-last : (s′ ys : List Float) (least : Float) → (s′ ≡ lastSet (runFrom l) o chi2 s) × (least ≡ lastChi2 (runFrom l) o chi2 s)
+      → Renewed w ys (8 * countOf l)
+      → residualsIn l ys ≡ zipWith (sub binary64) (bIn l (take (8 * countOf l) w)) (product (2 * countOf l) (length (l .free)) (at (a .x))
+      (extracted (l .free) (weighedAt k (skyIn l (take (8 * countOf l) w)) (l .settings) (sightsAt (l .pier) (l .sheets) (l .used)) (l .names))))
+      → LastTried l o chi2 s (renewed w ys (8 * countOf l)) s′ least a
   unfolding freeResiduals
-  tried-last s′ least e =
-      let n = length (l .dh) in
-      let m = length (l .fixed) in
-      let same = f .pier-count in
-      let all = 8 * n + length (l .coefficients) * heightOf l in
-      let qp : part w₂ (2 * n) (2 * n) ≡ zipWith (sub binary64) (part w₁ (4 * n) (2 * n)) (freeProduct (2 * n) m (l .fixed) (a .x) (weighedTo k (part w₁ (6 * n) (2 * n)) (l .sinLat) (l .cosLat) (l .names) (l .pier) (l .sheets))) = rw same at (q .0) in
-      let left = qp
-      ∙ ap (λ (r : List Float). zipWith (sub binary64) r (freeProduct (2 * n) m (l .fixed) (a .x) (λ j. Design.weighing k (part w₁ (6 * n) (2 * n)) (skyTo-at l j)))) (p .step .b)
-      ∙ ap (λ (r : List Float). zipWith (sub binary64) (weighedResiduals l k) (freeProduct (2 * n) m (l .fixed) (a .x) (λ j. Design.weighing k r (skyTo-at l j)))) (p .step .sky)
-      ∙ ap (λ c. zipWith (sub binary64) (weighedResiduals l k) (freeProduct (2 * n) m (l .fixed) (a .x) (λ j. Design.weighing k (skyResiduals l) (c j)))) (sky-same l same)
-      ∙ ap (λ (z : Float). zipWith (sub binary64) (weighedResiduals l z) (freeProduct (2 * n) m (l .fixed) (a .x) (weighedColumn l z))) ek
-      ∙ ap (λ (s : Solved). zipWith (sub binary64) (weighedResiduals l (huberK l o chi2)) (freeProduct (2 * n) m (l .fixed) (s .outcome .x) (weighedColumn l (huberK l o chi2)))) solution-is in
+  tried-last s′ ys least e r q =
+      let n = countOf l in
+      let b : bIn l (take (8 * n) w) ≡ weighedResiduals (runFrom l) k s = part-take w (4 * n) (2 * n) (8 * n) (omega arith) (r .room) ∙ p .b in
+      let sky : skyIn l (take (8 * n) w) ≡ skyResiduals (runFrom l) s = part-take w (6 * n) (2 * n) (8 * n) (omega arith) (r .room) ∙ p .sky in
+      let is : residualsIn l ys ≡ freeResiduals (runFrom l) o chi2 s =
+      q ∙ rw (b, sky, weighed-are l k (skyResiduals (runFrom l) s), rows-are l, x-is p o chi2 ek, k-is p o chi2 ek) refl in
       record {
         kept = e .0;
         least-is = e .1;
-        solution = ap (λ (u : List Float). record { outcome = a; w = u }) (q .1 .above (8 * n) (freeCount (l .fixed) * heightOf l) (omega (arith, same))) ∙ solution-is;
-        left = left;
-        only = only-then 0 all w w₁ w₂ (p .step .only) (only-wider 0 (2 * length (l .pier) + 2 * length (l .pier)) 0 all w₁ w₂ (omega arith) (omega (arith, same)) (q .1));
+        solution = solved-front c r a (omega arith) ∙ solution-is p o chi2 ek;
+        left = left-front c r _ (omega arith) is;
       }
-
-  last-is : last ≡ chi2At l (moved (l .fixed) (lastStep l o chi2 (l .coefficients) .outcome .x) (l .coefficients))
-  last-is = next-is l o chi2 #0 k ek w w₁ set last a f p
-
-  pub last-kept : (s′ : List Float) → le last chi2 ≡ true → s′ ≡ filled (length (l .coefficients)) (at set) (l .coefficients)
-      → (s′ ≡ lastSet l o chi2 (l .coefficients)) × (last ≡ lastChi2 l o chi2 (l .coefficients))
-  unfolding lastSet lastChi2
-  last-kept s′ h e = (rw (← last-is, h) (set-is l o chi2 #0 k ek w w₁ set last a f p s′ e), rw (← last-is, h) refl)
-
-  pub last-not : (s′ : List Float) → le last chi2 ≡ false → s′ ≡ l .coefficients → (s′ ≡ lastSet l o chi2 (l .coefficients)) × (chi2 ≡ lastChi2 l o chi2 (l .coefficients))
-  unfolding lastSet lastChi2
-  last-not s′ h e = (rw (← last-is, h) e, rw (← last-is, h) refl)

@@ -1,4 +1,4 @@
-pub mod Laws
-pub mod Search
 pub mod Best
+pub mod Laws
+pub mod Run
 pub mod Outcome

@@ -12,26 +12,27 @@ use Rattle.solver.specs.declared.Fit.{Fit}
 use Rattle.solver.specs.declared.Fit.the-variants.{Done, Refused}
 use Rattle.solver.specs.declared.IterOptions.{IterOptions}
 use Rattle.solver.specs.Call.{FitInputs}
-use Rattle.design.specs.Design.{isFree}
+use Rattle.design.specs.Design.{Run, runOf, isFree}
 use Rattle.lm_system.specs.System.{hour, dec}
-use Rattle.iterated.specs.Iterated.{under, trials, begin}
+use Rattle.iterated.specs.Iterated.{trials, begin}
 
 -- the sets tried: the start as lent, what each trial proposes, kept or rejected, and what the undamped trial proposes
 abbrev pub triedSets : FitInputs → IterOptions → List (List Float)
-triedSets l o = tried (trials l o) (o .«max_iter») (begin l o)
+triedSets l o = tried (trials (runOf l) o) (o .«max_iter») (begin (runOf l) o (l .coefficients))
 
 -- the exact chi-square of a set: the sum of the exact squares of its weighted residuals, as a fraction
-abbrev pub exactSumAt : FitInputs → List Float → Frac
-exactSumAt l s = exactSum (hour (under l s)) (dec (under l s)) (length (l .dh))
+abbrev pub exactSumAt : Run → List Float → Frac
+exactSumAt r s = exactSum (hour r s) (dec r s) (length (r .stars))
 
 -- each of them is zero or of a size from 2 ^ -400 to 2 ^ 400
-abbrev pub TameAt : FitInputs → List Float → Type 0
-TameAt l s = AllTame (hour (under l s)) (dec (under l s)) (length (l .dh))
+abbrev pub TameAt : Run → List Float → Type 0
+TameAt r s = AllTame (hour r s) (dec r s) (length (r .stars))
 
 -- the set s is returned, after so many iterations; `AtMost`: at most (1 + 2 ^ -41) times as much
 pub record BestOfTried (l : FitInputs) (o : IterOptions) (s : List Float) (iterations : ℕ) : Type 0 where
   pub listed : List·Memᴰ s (triedSets l o)
-  pub best : (other : List Float) → List·Memᴰ other (triedSets l o) → TameAt l other → TameAt l s → AtMost (exactSumAt l s) (exactSumAt l other)
+  pub best : (other : List Float) → List·Memᴰ other (triedSets l o) → TameAt (runOf l) other → TameAt (runOf l) s
+      → AtMost (exactSumAt (runOf l) s) (exactSumAt (runOf l) other)
   pub kept : (j : ℕ) → j < length (l .coefficients) → isFree (l .fixed) j ≡ false → at s j ≡ at (l .coefficients) j
   pub counted : iterations + 2 ≡ length (triedSets l o)
   pub limited : iterations ≤ o .«max_iter»

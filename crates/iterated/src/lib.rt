@@ -2,23 +2,27 @@
 // in the scratch that outcome describes. After solver/iterated.rs.
 
 ghost use mathlib.Core.Path.{_≡_};
+ghost use mathlib.Core.List.{zipWith};
 ghost use Prim.Native.Nat.{_+_, _*_, _≤_};
 ghost use lib.ListN.{length};
-ghost use Rattle.float.specs.Float.{_⊖_};
-ghost use Rattle.sequence.specs.Sequence.{at, filled, Only};
-ghost use Rattle.column.specs.Column.{zeros};
+ghost use lib.Ieee.{sub, binary64};
 ghost use Rattle.solver.specs.Call.{FitInputs, inputs, buffers, sizesOf};
+ghost use Rattle.design.specs.Design.{RunInputs, runInputs, runFrom};
+ghost use Rattle.design.specs.Counted.{Counted};
 ghost use Rattle.validate.specs.Questions.{Ready};
-ghost use Rattle.outcome.specs.Outcome.{outcome, Fits};
-ghost use Rattle.lm_system.specs.System.{Left};
-ghost use Rattle.iterated.specs.Iterated.{under, triedTo, trialOf, lmLoop, Within, Proposed, LastTried, Searched, fitted, iteratedOutcome};
+ghost use Rattle.outcome.specs.Outcome.{outcome};
+ghost use Rattle.outcome.specs.Scratch.{countOf, Fits};
+ghost use Rattle.iterated.specs.Iterated.{triedTo, trialOf, lmLoop, Left, Proposed, LastTried, fittedRun, fitted, iteratedOutcome};
 ghost use Rattle.iterated.specs.Demand3.{Demand3};
+use limits::MAX_STARS;
+use limits::MAX_TERMS;
 use linalg::SolveOutcome;
 use solver::Fit;
 use solver::FitResult;
 use solver::IterOptions;
 use solver::IterReport;
-use solver::RankInfo;
+use solver::Settings;
+use solver::Sizes;
 use validate::Asked;
 
 // What comes of a trial: its chi-square and the step's length where it is kept, and else the raised damping.
@@ -36,9 +40,9 @@ pub struct LmLoopResult {
     pub prev_chi2: f64,
 }
 
-// The set that a step leads to, with zeros after it, its chi-square, and the solver's answer.
+// The set that a step leads to, at the front of an array, its chi-square, and the solver's answer.
 struct Proposal {
-    pub set: [f64; 32],
+    pub set: [f64; MAX_TERMS],
     pub chi2: f64,
     pub solved: SolveOutcome,
 }
@@ -47,54 +51,52 @@ struct Proposal {
 // proposal.
 fn propose(
     names: &[u8],
-    fixed: &[u8],
+    free: &[u16],
     set: &[f64],
     dh: &[f64],
     dd: &[f64],
     pier: &[u8],
     sheets: &[f64],
-    sin_lat: f64,
-    cos_lat: f64,
-    fit_tol: f64,
+    used: &[u16],
+    s: Settings,
     k: f64,
     lambda: f64,
     w: &mut [f64],
 ) -> Proposal
-    ghost { FitInputs }
-    requires { λ l. ⌜ inputs (now names) (now fixed) (now set) (now dh) (now dd) (now pier) (now sheets) «sin_lat» «cos_lat» «fit_tol» ≡ l ⌝ }
-    requires { λ l. ⌜ Fits l (now w) × Left l (now w) ⌝ }
-    ensures { λ l r. ⌜ Proposed l k lambda (now (w .entry)) (now (w .exit)) (r .set) (r .chi2) (r .solved) ⌝ }
+    ghost { RunInputs }
+    requires { λ l. ⌜ runInputs (length (now set)) (now names) (now free) (now dh) (now dd) (now pier) (now sheets) (now used) s ≡ l ⌝ }
+    requires { λ l. ⌜ Fits l (now w) × Left l (now set) (now w) ⌝ }
+    ensures { λ l r. ⌜ Proposed l k lambda (now (set .entry)) (now (w .exit)) (r .set) (r .chi2) (r .solved) ⌝ }
 {
     let m = set.len();
+    let v = 4 * used.len();
     let solved = lm_system::lm_step(
         names,
-        fixed,
+        free,
         set,
         dh,
         dd,
         pier,
         sheets,
-        sin_lat,
-        cos_lat,
-        fit_tol,
+        used,
+        s,
         k,
         lambda,
         w,
     );
     let x = solved.x;
-    let trial = lm_system::trial_state_from(fixed, &x, set);
+    let trial = lm_system::trial_state_from(free, &x, set);
     let chi2 = lm_system::chi2_at_state(
         names,
-        fixed,
+        free,
         &trial[..m],
         dh,
         dd,
         pier,
         sheets,
-        sin_lat,
-        cos_lat,
-        fit_tol,
-        w,
+        used,
+        s,
+        &mut w[..v],
     );
     Proposal {
         set: trial,
@@ -107,39 +109,38 @@ fn propose(
 // after it.
 fn attempt(
     names: &[u8],
-    fixed: &[u8],
+    free: &[u16],
     dh: &[f64],
     dd: &[f64],
     pier: &[u8],
     sheets: &[f64],
-    sin_lat: f64,
-    cos_lat: f64,
-    fit_tol: f64,
+    used: &[u16],
+    s: Settings,
     options: IterOptions,
     chi2: f64,
     lambda: f64,
     set: &mut [f64],
     w: &mut [f64],
 ) -> Trial
-    ghost { FitInputs }
-    requires { λ l. ⌜ inputs (now names) (now fixed) (now set) (now dh) (now dd) (now pier) (now sheets) «sin_lat» «cos_lat» «fit_tol» ≡ l ⌝ }
-    requires { λ l. ⌜ Fits l (now w) × Left l (now w) ⌝ }
-    ensures { λ l r. ⌜ (triedTo r (now (set .exit)) ≡ trialOf l options chi2 lambda (now (set .entry)))
-        × Within l (now (w .entry)) (now (w .exit)) × Left (under l (now (set .exit))) (now (w .exit)) ⌝ }
+    ghost { RunInputs }
+    requires { λ l. ⌜ runInputs (length (now set)) (now names) (now free) (now dh) (now dd) (now pier) (now sheets) (now used) s ≡ l ⌝ }
+    requires { λ l. ⌜ Fits l (now w) × Left l (now set) (now w) ⌝ }
+    ensures tried { λ l r. ⌜ triedTo r (now (set .exit)) ≡ trialOf (runFrom l) options chi2 lambda (now (set .entry)) ⌝ }
+    ensures left { λ l _. ⌜ Left l (now (set .exit)) (now (w .exit)) ⌝ }
 {
     let m = set.len();
-    let k = lm_system::huber_threshold(dh.len(), fixed, options, chi2);
+    let n = used.len();
+    let k = lm_system::huber_threshold(n, free.len(), options, chi2);
     let next = propose(
         names,
-        fixed,
+        free,
         set,
         dh,
         dd,
         pier,
         sheets,
-        sin_lat,
-        cos_lat,
-        fit_tol,
+        used,
+        s,
         k,
         lambda,
         w,
@@ -148,58 +149,49 @@ fn attempt(
     let x = solved.x;
     let trial = next.set;
     if next.chi2 < chi2 {
-        outcome::copy(&trial, m, set);
-        return Trial::Accepted(next.chi2, lm_system::rotational_step_norm(names, fixed, &x));
+        sequence::copy(&trial[..m], set);
+        let f = free.len();
+        let norm = lm_system::rotational_step_norm(names, free, &x[..f]);
+        return Trial::Accepted(next.chi2, norm);
     }
-    lm_system::residuals_under_state(
-        names,
-        fixed,
-        set,
-        dh,
-        dd,
-        pier,
-        sheets,
-        sin_lat,
-        cos_lat,
-        fit_tol,
-        w,
-    );
+    let v = 4 * n;
+    lm_system::residuals_under_state(names, free, set, dh, dd, pier, sheets, used, s, &mut w[..v]);
     Trial::Rejected(lambda * options.lambda_up)
 }
 
 // The loop of damped trials.
 fn run_lm_loop(
     names: &[u8],
-    fixed: &[u8],
+    free: &[u16],
     dh: &[f64],
     dd: &[f64],
     pier: &[u8],
     sheets: &[f64],
-    sin_lat: f64,
-    cos_lat: f64,
-    fit_tol: f64,
+    used: &[u16],
+    s: Settings,
     options: IterOptions,
     set: &mut [f64],
     w: &mut [f64],
 ) -> LmLoopResult
-    ghost { FitInputs }
-    requires { λ l. ⌜ inputs (now names) (now fixed) (now set) (now dh) (now dd) (now pier) (now sheets) «sin_lat» «cos_lat» «fit_tol» ≡ l ⌝ }
+    ghost { RunInputs }
+    requires { λ l. ⌜ runInputs (length (now set)) (now names) (now free) (now dh) (now dd) (now pier) (now sheets) (now used) s ≡ l ⌝ }
     requires { λ l. ⌜ Fits l (now w) ⌝ }
-    ensures { λ l r. ⌜ (record { set = now (set .exit); how = r } ≡ lmLoop l options) × Within l (now (w .entry)) (now (w .exit)) × Left (under l (now (set .exit))) (now (w .exit)) ⌝ }
+    ensures reported { λ l r. ⌜ record { set = now (set .exit); how = r } ≡ lmLoop (runFrom l) options (now (set .entry)) ⌝ }
+    ensures left { λ l _. ⌜ Left l (now (set .exit)) (now (w .exit)) ⌝ }
 {
     let limit = options.max_iter;
+    let v = 4 * used.len();
     let mut chi2 = lm_system::chi2_at_state(
         names,
-        fixed,
+        free,
         set,
         dh,
         dd,
         pier,
         sheets,
-        sin_lat,
-        cos_lat,
-        fit_tol,
-        w,
+        used,
+        s,
+        &mut w[..v],
     );
     let mut lambda = options.initial_lambda;
     let mut iterations = 0usize;
@@ -209,14 +201,13 @@ fn run_lm_loop(
         iterations += 1;
         let trial = attempt(
             names,
-            fixed,
+            free,
             dh,
             dd,
             pier,
             sheets,
-            sin_lat,
-            cos_lat,
-            fit_tol,
+            used,
+            s,
             options,
             chi2,
             lambda,
@@ -259,150 +250,136 @@ struct LastTrial {
 // The last, undamped trial, kept where it is not above. It leaves at 2·n the residuals of its step, kept or not.
 fn apply_final_step(
     names: &[u8],
-    fixed: &[u8],
+    free: &[u16],
     dh: &[f64],
     dd: &[f64],
     pier: &[u8],
     sheets: &[f64],
-    sin_lat: f64,
-    cos_lat: f64,
-    fit_tol: f64,
+    used: &[u16],
+    s: Settings,
     options: IterOptions,
     chi2: f64,
     set: &mut [f64],
     w: &mut [f64],
 ) -> LastTrial
-    ghost { FitInputs }
-    requires { λ l. ⌜ inputs (now names) (now fixed) (now set) (now dh) (now dd) (now pier) (now sheets) «sin_lat» «cos_lat» «fit_tol» ≡ l ⌝ }
-    requires { λ l. ⌜ Fits l (now w) × Left l (now w) ⌝ }
-    ensures { λ l r. ⌜ LastTried l options chi2 (now (set .entry)) (now (w .entry)) (now (w .exit)) (now (set .exit)) (r .chi2) (r .solved) ⌝ }
+    ghost { RunInputs }
+    requires { λ l. ⌜ runInputs (length (now set)) (now names) (now free) (now dh) (now dd) (now pier) (now sheets) (now used) s ≡ l ⌝ }
+    requires { λ l. ⌜ Fits l (now w) × Left l (now set) (now w) ⌝ }
+    ensures { λ l r. ⌜ LastTried l options chi2 (now (set .entry)) (now (w .exit)) (now (set .exit)) (r .chi2) (r .solved) ⌝ }
 {
     let m = set.len();
-    let k = lm_system::huber_threshold(dh.len(), fixed, options, chi2);
-    let last = propose(
-        names,
-        fixed,
-        set,
-        dh,
-        dd,
-        pier,
-        sheets,
-        sin_lat,
-        cos_lat,
-        fit_tol,
-        k,
-        0.0,
-        w,
-    );
+    let n = used.len();
+    let k = lm_system::huber_threshold(n, free.len(), options, chi2);
+    let last = propose(names, free, set, dh, dd, pier, sheets, used, s, k, 0.0, w);
     let solved = last.solved;
     let x = solved.x;
     let trial = last.set;
     let mut least = chi2;
     if last.chi2 <= chi2 {
-        outcome::copy(&trial, m, set);
+        sequence::copy(&trial[..m], set);
         least = last.chi2;
     }
-    outcome::free_residuals(names, fixed, pier, sheets, sin_lat, cos_lat, k, &x, w);
+    let v = 8 * n;
+    outcome::free_residuals(names, free, pier, sheets, used, s, k, &x, &mut w[..v]);
     LastTrial {
         chi2: least,
         solved,
     }
 }
 
-// The set that the fit comes to, with zeros after it, its chi-square, how the loop went, and the solver's last answer.
-struct FittedSet {
-    pub set: [f64; 32],
-    pub chi2: f64,
-    pub lm: LmLoopResult,
-    pub solved: SolveOutcome,
-}
-
-// The numbers of s, and zeros after them.
-fn padded(s: &[f64]) -> [f64; 32]
-    requires { ⌜ length (now s) ≤ 32 ⌝ }
-    ensures { λ r. ⌜ r ≡ filled (length (now (s .entry))) (at (now (s .entry))) zeros ⌝ }
-{
-    let mut t = [0.0; 32];
-    for j in 0..s.len() {
-        t[j] = s[j];
-    }
-    t
-}
-
 // A set less the start.
-fn changes(set: &[f64], start: &[f64]) -> [f64; 32]
-    requires { ⌜ (length (now start) ≤ 32) × (length (now set) ≡ length (now start)) ⌝ }
-    ensures { λ r. ⌜ r ≡ filled (length (now (start .entry))) (λ j. at (now (set .entry)) j ⊖ at (now (start .entry)) j) zeros ⌝ }
+fn changes(set: &[f64], start: &[f64], change: &mut [f64])
+    requires { ⌜ (length (now start) ≡ length (now set)) × (length (now change) ≡ length (now set)) ⌝ }
+    ensures { λ _. ⌜ now (change .exit) ≡ zipWith (sub binary64) (now (set .entry)) (now (start .entry)) ⌝ }
 {
-    let mut change = [0.0; 32];
-    for j in 0..start.len() {
+    for j in 0..set.len() {
         change[j] = set[j] - start[j];
     }
-    change
 }
 
-// The search for the set: from the coefficients as lent through the loop and the last trial, whose residuals it leaves at 2·n.
-fn fit_set(
+// The fit of a run that needs so much of scratch: from the coefficients as lent through the loop and the last trial. The set in hand lies at the front of
+// the answer's coefficients.
+fn fit_run(
     names: &[u8],
-    fixed: &[u8],
+    free: &[u16],
     coefficients: &[f64],
     dh: &[f64],
     dd: &[f64],
     pier: &[u8],
     sheets: &[f64],
-    sin_lat: f64,
-    cos_lat: f64,
-    fit_tol: f64,
+    used: &[u16],
+    s: Settings,
     options: IterOptions,
-    w: &mut [f64],
-) -> FittedSet
-    ghost { FitInputs }
-    requires { λ l. ⌜ inputs (now names) (now fixed) (now coefficients) (now dh) (now dd) (now pier) (now sheets) «sin_lat» «cos_lat» «fit_tol» ≡ l ⌝ }
-    requires { λ l. ⌜ Fits l (now w) ⌝ }
-    ensures { λ l r. ⌜ Searched l options (now (w .entry)) (now (w .exit)) (r .set) (r .chi2) (r .lm) (r .solved) ⌝ }
+    need: usize,
+    out: &mut [f64],
+    change: &mut [f64],
+    sigma: &mut [f64],
+    diagnostics: &mut [f64],
+    scratch: &mut [f64],
+) -> FitResult
+    ghost { RunInputs }
+    requires { λ l. ⌜ runInputs (length (now coefficients)) (now names) (now free) (now dh) (now dd) (now pier) (now sheets) (now used) s ≡ l ⌝ }
+    requires { λ l. ⌜ Counted l × (8 * countOf l + l .m * (2 * countOf l + 2 * l .m) ≤ need) × (need ≤ length (now scratch)) × (l .m ≤ length (now out))
+        × (l .m ≤ length (now change)) × (l .m ≤ length (now sigma)) × (3 * countOf l ≤ length (now diagnostics)) ⌝ }
+    ensures { λ l r. ⌜ outcome (Fit.Done r) (buffers (now (out .exit)) (now (change .exit)) (now (sigma .exit)) (now (diagnostics .exit)) (now (scratch .exit)))
+        ≡ fittedRun (runFrom l) need (now (coefficients .entry)) options
+        (buffers (now (out .entry)) (now (change .entry)) (now (sigma .entry)) (now (diagnostics .entry)) (now (scratch .entry))) ⌝ }
 {
     let m = coefficients.len();
-    let mut set = padded(coefficients);
+    let n = used.len();
+    sequence::copy(coefficients, &mut out[..m]);
     let lm = run_lm_loop(
         names,
-        fixed,
+        free,
         dh,
         dd,
         pier,
         sheets,
-        sin_lat,
-        cos_lat,
-        fit_tol,
+        used,
+        s,
         options,
-        &mut set[..m],
-        w,
+        &mut out[..m],
+        &mut scratch[..need],
     );
     let last = apply_final_step(
         names,
-        fixed,
+        free,
         dh,
         dd,
         pier,
         sheets,
-        sin_lat,
-        cos_lat,
-        fit_tol,
+        used,
+        s,
         options,
         lm.prev_chi2,
-        &mut set[..m],
-        w,
+        &mut out[..m],
+        &mut scratch[..need],
     );
     let solved = last.solved;
-    FittedSet {
-        set,
-        chi2: last.chi2,
-        lm,
+    changes(&out[..m], coefficients, &mut change[..m]);
+    let sky = stats::sky_of_sum(last.chi2, n, free.len());
+    let report = IterReport {
+        iterations: lm.iterations,
+        converged: lm.converged,
+        final_lambda: lm.lambda,
+        final_step_norm: lm.last_step_norm,
+    };
+    outcome::finish(
+        free,
+        n,
+        m,
+        s,
         solved,
-    }
+        sky,
+        report,
+        sigma,
+        diagnostics,
+        &mut scratch[..need],
+    )
 }
 
-// A fit whose questions are all passed.
-fn fit(
+// A fit whose questions are all passed: the free terms and the stars that count are listed once.
+pub fn fit(
     names: &[u8],
     fixed: &[u8],
     coefficients: &[f64],
@@ -410,9 +387,7 @@ fn fit(
     dd: &[f64],
     pier: &[u8],
     sheets: &[f64],
-    sin_lat: f64,
-    cos_lat: f64,
-    fit_tol: f64,
+    s: Settings,
     options: IterOptions,
     out: &mut [f64],
     change: &mut [f64],
@@ -421,58 +396,35 @@ fn fit(
     scratch: &mut [f64],
 ) -> FitResult
     ghost { FitInputs }
-    requires { λ l. ⌜ inputs (now names) (now fixed) (now coefficients) (now dh) (now dd) (now pier) (now sheets) «sin_lat» «cos_lat» «fit_tol» ≡ l ⌝ }
+    requires { λ l. ⌜ inputs (now names) (now fixed) (now coefficients) (now dh) (now dd) (now pier) (now sheets) s ≡ l ⌝ }
     requires { λ l. ⌜ Ready l (sizesOf (buffers (now out) (now change) (now sigma) (now diagnostics) (now scratch))) ⌝ }
     ensures { λ l r. ⌜ outcome (Fit.Done r) (buffers (now (out .exit)) (now (change .exit)) (now (sigma .exit)) (now (diagnostics .exit)) (now (scratch .exit)))
         ≡ fitted l options (buffers (now (out .entry)) (now (change .entry)) (now (sigma .entry)) (now (diagnostics .entry)) (now (scratch .entry))) ⌝ }
 {
-    let m = coefficients.len();
     let n = dh.len();
-    let need = validate::scratch_needed(m, n);
-    let free = design::free_count(fixed);
-    let fitted = fit_set(
+    let need = validate::scratch_needed(coefficients.len(), n);
+    let mut terms = [0u16; MAX_TERMS];
+    let free = validate::collect_indices(fixed, &mut terms[..]);
+    let mut stars = [0u16; MAX_STARS];
+    validate::all_indices(n, &mut stars[..]);
+    fit_run(
         names,
-        fixed,
+        &terms[..free],
         coefficients,
         dh,
         dd,
         pier,
         sheets,
-        sin_lat,
-        cos_lat,
-        fit_tol,
+        &stars[..n],
+        s,
         options,
+        need,
+        out,
+        change,
+        sigma,
+        diagnostics,
         scratch,
-    );
-    let set = fitted.set;
-    let lm = fitted.lm;
-    let solved = fitted.solved;
-    let rank = solved.rank;
-    let sigma_max = solved.sigma_max;
-    let sigma_min = solved.sigma_min;
-    let moved = changes(&set[..m], coefficients);
-    outcome::copy(&set, m, out);
-    outcome::copy(&moved, m, change);
-    outcome::statistics(fixed, n, m, solved, scratch, sigma, diagnostics);
-    let sky = stats::sky_of_sum(fitted.chi2, n, free);
-    sequence::fill(&mut scratch[..need], 0.0);
-    FitResult {
-        sky_rms: sky.rms,
-        popn_sd: sky.popn_sd,
-        rank_info: RankInfo {
-            n_free: free,
-            rank,
-            sigma_max,
-            sigma_min,
-            tol: fit_tol,
-        },
-        iter_report: IterReport {
-            iterations: lm.iterations,
-            converged: lm.converged,
-            final_lambda: lm.lambda,
-            final_step_norm: lm.last_step_norm,
-        },
-    }
+    )
 }
 
 // The iterated fit of m terms to n stars, robust or not: the best set that it tried, its change and sigma, and three numbers a star, or the
@@ -485,9 +437,7 @@ pub fn fit_model_iterated(
     dd: &[f64],
     pier: &[u8],
     sheets: &[f64],
-    sin_lat: f64,
-    cos_lat: f64,
-    fit_tol: f64,
+    settings: Settings,
     options: IterOptions,
     out: &mut [f64],
     change: &mut [f64],
@@ -495,10 +445,21 @@ pub fn fit_model_iterated(
     diagnostics: &mut [f64],
     scratch: &mut [f64],
 ) -> Fit
-    ensures { λ r. ⌜ (outcome r (buffers (now (out .exit)) (now (change .exit)) (now (sigma .exit)) (now (diagnostics .exit)) (now (scratch .exit)))
-        ≡ iteratedOutcome (inputs (now (names .entry)) (now (fixed .entry)) (now (coefficients .entry)) (now (dh .entry)) (now (dd .entry)) (now (pier .entry)) (now (sheets .entry)) «sin_lat» «cos_lat» «fit_tol») options (buffers (now (out .entry)) (now (change .entry)) (now (sigma .entry)) (now (diagnostics .entry)) (now (scratch .entry))))
-        × Demand3 (inputs (now (names .entry)) (now (fixed .entry)) (now (coefficients .entry)) (now (dh .entry)) (now (dd .entry)) (now (pier .entry)) (now (sheets .entry)) «sin_lat» «cos_lat» «fit_tol») options r (now (out .exit)) ⌝ }
+    ensures equal { λ r. ⌜ outcome r (buffers (now (out .exit)) (now (change .exit)) (now (sigma .exit)) (now (diagnostics .exit)) (now (scratch .exit)))
+        ≡ iteratedOutcome (inputs (now (names .entry)) (now (fixed .entry)) (now (coefficients .entry)) (now (dh .entry)) (now (dd .entry))
+        (now (pier .entry)) (now (sheets .entry)) settings) options
+        (buffers (now (out .entry)) (now (change .entry)) (now (sigma .entry)) (now (diagnostics .entry)) (now (scratch .entry))) ⌝ }
+    ensures demand { λ r. ⌜ Demand3 (inputs (now (names .entry)) (now (fixed .entry)) (now (coefficients .entry)) (now (dh .entry)) (now (dd .entry))
+        (now (pier .entry)) (now (sheets .entry)) settings) options
+        r (now (out .exit)) ⌝ }
 {
+    let room = Sizes {
+        coefficients: out.len(),
+        change: change.len(),
+        sigma: sigma.len(),
+        diagnostics: diagnostics.len(),
+        scratch: scratch.len(),
+    };
     let asked = validate::questions(
         names,
         fixed,
@@ -507,19 +468,13 @@ pub fn fit_model_iterated(
         dd,
         pier,
         sheets,
-        sin_lat,
-        cos_lat,
-        fit_tol,
+        settings,
         options,
-        out.len(),
-        change.len(),
-        sigma.len(),
-        diagnostics.len(),
-        scratch.len(),
+        room,
     );
     match asked {
         Asked::No(k) => Fit::Refused(k),
-        Asked::Pass(_free) => Fit::Done(fit(
+        Asked::Pass => Fit::Done(fit(
             names,
             fixed,
             coefficients,
@@ -527,9 +482,7 @@ pub fn fit_model_iterated(
             dd,
             pier,
             sheets,
-            sin_lat,
-            cos_lat,
-            fit_tol,
+            settings,
             options,
             out,
             change,

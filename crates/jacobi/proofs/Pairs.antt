@@ -2,7 +2,7 @@
 use mathlib.Core.Path.{_≡_, refl, sym, ap, _∙_}
 use mathlib.Core.Bool.{Bool, true}
 use mathlib.Core.List.{List, zipWith}
-use Prim.Native.Nat.{ℕ, zero, suc, _+_, _*_, _≤_, _<_}
+use Prim.Native.Nat.{ℕ, zero, suc, _+_, _*_, _≤_}
 use native.Mathlib.Nat.{add-zero}
 use native.Mathlib.Numerals.{add-one}
 use native.Mathlib.Omega.{arith}
@@ -15,10 +15,6 @@ use Rattle.sequence.proofs.Parts.{apart, length-zip-part, part-sets-above, part
 use Rattle.jacobi.specs.declared.Products.{Products}
 use Rattle.jacobi.specs.Jacobi.{products, turns, turn, newP, newQ, pair, zetaOf, tanOf, cosOf}
 use Rattle.jacobi.proofs.Laws.{turn-zero, turn-length, turn-step, pair-turned}
-
--- column p ends before column q begins, and that one before the m columns end
-pub inside : (p q m h : ℕ) → p < q → q < m → (p * h + h ≤ q * h) × (q * h + h ≤ m * h)
-inside p q m h l l₂ = (apart p q h l, apart q m h l₂)
 
 -- ---- V's rows after A's
 

@@ -7,7 +7,6 @@ ghost use mathlib.Core.Path.{_≡_};
 ghost use mathlib.Core.Bool.{Bool, true};
 ghost use Prim.Native.Nat.{_+_, _*_, _≤_, _<_};
 ghost use lib.ListN.{length};
-ghost use Rattle.sequence.specs.Sequence.{part, dot};
 ghost use Rattle.jacobi.specs.Jacobi.{products, turns as turnsOf, zetaOf, tanOf, cosOf, turn as turnOf, pair as pairOf, factorised};
 
 // The squared norms of two columns and their dot product. With gamma first the compiler adds the two norms as one vector.

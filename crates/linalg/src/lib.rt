@@ -5,44 +5,49 @@
 ghost use mathlib.Core.Path.{_≡_};
 ghost use Prim.Native.Nat.{_+_, _*_, _≤_, _<_};
 ghost use lib.ListN.{length, take};
+ghost use Rattle.limits.specs.Limits.{maxTerms};
 ghost use Rattle.sequence.specs.Sequence.{part, Only};
 ghost use Rattle.column.specs.Column.{extended};
-ghost use Rattle.linalg.specs.Linalg.{Taken, Placed, entry as entryOf, threshold as thresholdOf, inverses as inversesOf, rankTo, projected, xScaled, solution as solutionOf, scaledVariance as scaledVarianceOf, covariance as covarianceOf, leverageOf, decomposed, inOrder, answered, solved, solvedDamped};
+ghost use Rattle.linalg.specs.Linalg.{Taken, Placed, entry as entryOf, threshold as thresholdOf, inverses as inversesOf, rankTo, projected, xScaled};
+ghost use Rattle.linalg.specs.Linalg.{solution as solutionOf, scaledVariance as scaledVarianceOf, covariance as covarianceOf, leverageOf};
+ghost use Rattle.linalg.specs.Linalg.{decomposed, inOrder, answered, solved, solvedDamped};
+use limits::MAX_TERMS;
 
 // The Rust's record, with zeros past the m columns, how many sweeps the factorisation made and
 // whether the last had no turn. In the leverage's place stand inv_s and the order of the columns, from
 // which `leverage` gives it row by row.
 #[repr(C)]
 pub struct SolveOutcome {
-    pub x: [f64; 32],
-    pub cov_diag: [f64; 32],
+    pub x: [f64; MAX_TERMS],
+    pub cov_diag: [f64; MAX_TERMS],
     pub rank: usize,
     pub sigma_max: f64,
     pub sigma_min: f64,
-    pub inv_s: [f64; 32],
-    pub order: [usize; 32],
+    pub inv_s: [f64; MAX_TERMS],
+    pub order: [usize; MAX_TERMS],
     pub sweeps: usize,
     pub settled: bool,
 }
 
 // The norms of A's columns, the singular values as the columns lie, and how the sweeps ended.
 struct Factors {
-    pub norms: [f64; 32],
-    pub values: [f64; 32],
+    pub norms: [f64; MAX_TERMS],
+    pub values: [f64; MAX_TERMS],
     pub made: usize,
     pub settled: bool,
 }
 
 // The inverses of the singular values above the threshold, in their order, and how many there are.
 struct Inverses {
-    pub inv_s: [f64; 32],
+    pub inv_s: [f64; MAX_TERMS],
     pub rank: usize,
 }
 
 // A in the first rows is scaled and becomes U, with V below it.
 fn decompose(w: &mut [f64], h: usize, rows: usize, m: usize) -> Factors
-    requires { ⌜ (m ≤ 32) × (rows + m ≤ h) × (m * h ≤ length (now w)) ⌝ }
-    ensures { λ r. ⌜ record { norms = r .norms; w = now (w .exit); values = r .values; made = r .made; settled = r .settled } ≡ decomposed h rows m (now (w .entry)) ⌝ }
+    requires { ⌜ (m ≤ maxTerms) × (rows + m ≤ h) × (m * h ≤ length (now w)) ⌝ }
+    ensures { λ r. ⌜ record { norms = r .norms; w = now (w .exit); values = r .values; made = r .made; settled = r .settled } ≡ decomposed h rows m
+        (now (w .entry)) ⌝ }
 {
     let norms = column::norms(w, h, rows, m);
     column::scale_columns(w, h, rows, m, &norms);
@@ -69,11 +74,15 @@ fn threshold(fit_tol: f64, sigma_max: f64) -> f64
 }
 
 // inv_s and the rank.
-fn invert(s: &[f64; 32], o: &[usize], t: f64) -> Inverses
+fn invert(s: &[f64; MAX_TERMS], o: &[usize], t: f64) -> Inverses
     requires { ⌜ Taken (now o) ⌝ }
-    ensures { λ r. ⌜ r ≡ record { «inv_s» = inversesOf t (now (s .entry)) (now (o .entry)); rank = rankTo (length (now (o .entry))) t (now (s .entry)) (now (o .entry)) } ⌝ }
+    ensures { λ r. ⌜ r ≡ record {
+      «inv_s» = inversesOf t (now (s .entry)) (now (o .entry));
+      rank = rankTo (length (now (o .entry))) t (now (s .entry))
+          (now (o .entry));
+    } ⌝ }
 {
-    let mut inv_s = [0.0; 32];
+    let mut inv_s = [0.0; MAX_TERMS];
     let mut rank = 0usize;
     for i in 0..o.len() {
         let v = s[o[i]];
@@ -88,11 +97,18 @@ fn invert(s: &[f64; 32], o: &[usize], t: f64) -> Inverses
 }
 
 // z = inv_s * (U^T b); b has zeros down to the last row.
-fn project(w: &[f64], h: usize, rows: usize, b: &[f64], o: &[usize], inv_s: &[f64; 32]) -> [f64; 32]
+fn project(
+    w: &[f64],
+    h: usize,
+    rows: usize,
+    b: &[f64],
+    o: &[usize],
+    inv_s: &[f64; MAX_TERMS],
+) -> [f64; MAX_TERMS]
     requires { ⌜ Placed h (now w) (now o) × (rows ≤ h) × (length (now b) ≤ rows) ⌝ }
     ensures { λ r. ⌜ r ≡ projected h rows (now (w .entry)) (extended rows (now (b .entry))) (now (o .entry)) (now («inv_s» .entry)) ⌝ }
 {
-    let mut z = [0.0; 32];
+    let mut z = [0.0; MAX_TERMS];
     for i in 0..o.len() {
         let x = o[i] * h;
         z[i] = inv_s[i] * column::dot(&w[x..x + rows], b);
@@ -109,7 +125,7 @@ fn entry(w: &[f64], h: usize, o: &[usize], r: usize, i: usize) -> f64
 }
 
 // Row r of V, which begins below the rows of A, times z.
-fn x_scaled(w: &[f64], h: usize, o: &[usize], r: usize, z: &[f64; 32]) -> f64
+fn x_scaled(w: &[f64], h: usize, o: &[usize], r: usize, z: &[f64; MAX_TERMS]) -> f64
     requires { ⌜ Placed h (now w) (now o) × (r < h) ⌝ }
     ensures { λ t. ⌜ t ≡ xScaled h (now (w .entry)) (now (o .entry)) (now (z .entry)) r ⌝ }
 {
@@ -126,13 +142,13 @@ fn solution(
     h: usize,
     rows: usize,
     o: &[usize],
-    z: &[f64; 32],
-    norms: &[f64; 32],
-) -> [f64; 32]
+    z: &[f64; MAX_TERMS],
+    norms: &[f64; MAX_TERMS],
+) -> [f64; MAX_TERMS]
     requires { ⌜ Placed h (now w) (now o) × (rows + length (now o) ≤ h) ⌝ }
     ensures { λ r. ⌜ r ≡ solutionOf h rows (now (w .entry)) (now (o .entry)) (now (z .entry)) (now (norms .entry)) ⌝ }
 {
-    let mut x = [0.0; 32];
+    let mut x = [0.0; MAX_TERMS];
     for j in 0..o.len() {
         x[j] = x_scaled(w, h, o, rows + j, z) * column::scale(norms[j]);
     }
@@ -140,7 +156,7 @@ fn solution(
 }
 
 // The sum of the squares of row r of V times inv_s, where that isn't 0.
-fn scaled_variance(w: &[f64], h: usize, o: &[usize], r: usize, inv_s: &[f64; 32]) -> f64
+fn scaled_variance(w: &[f64], h: usize, o: &[usize], r: usize, inv_s: &[f64; MAX_TERMS]) -> f64
     requires { ⌜ Placed h (now w) (now o) × (r < h) ⌝ }
     ensures { λ t. ⌜ t ≡ scaledVarianceOf h (now (w .entry)) (now (o .entry)) (now («inv_s» .entry)) r ⌝ }
 {
@@ -161,13 +177,13 @@ fn covariance(
     h: usize,
     rows: usize,
     o: &[usize],
-    inv_s: &[f64; 32],
-    norms: &[f64; 32],
-) -> [f64; 32]
+    inv_s: &[f64; MAX_TERMS],
+    norms: &[f64; MAX_TERMS],
+) -> [f64; MAX_TERMS]
     requires { ⌜ Placed h (now w) (now o) × (rows + length (now o) ≤ h) ⌝ }
     ensures { λ r. ⌜ r ≡ covarianceOf h rows (now (w .entry)) (now (o .entry)) (now («inv_s» .entry)) (now (norms .entry)) ⌝ }
 {
-    let mut d = [0.0; 32];
+    let mut d = [0.0; MAX_TERMS];
     for j in 0..o.len() {
         let s = column::scale(norms[j]);
         d[j] = scaled_variance(w, h, o, rows + j, inv_s) * s * s;
@@ -176,7 +192,7 @@ fn covariance(
 }
 
 // The leverage of row r: the sum of the squares of U's row where inv_s isn't 0.
-pub fn leverage(w: &[f64], h: usize, o: &[usize], r: usize, inv_s: &[f64; 32]) -> f64
+pub fn leverage(w: &[f64], h: usize, o: &[usize], r: usize, inv_s: &[f64; MAX_TERMS]) -> f64
     requires { ⌜ Placed h (now w) (now o) × (r < h) ⌝ }
     ensures { λ t. ⌜ t ≡ leverageOf h (now (w .entry)) (now (o .entry)) (now («inv_s» .entry)) r ⌝ }
 {
@@ -192,11 +208,11 @@ pub fn leverage(w: &[f64], h: usize, o: &[usize], r: usize, inv_s: &[f64; 32]) -
 }
 
 // The columns in the order of their values, and zeros after them.
-fn in_order(values: &[f64; 32], m: usize) -> [usize; 32]
-    requires { ⌜ m ≤ 32 ⌝ }
+fn in_order(values: &[f64; MAX_TERMS], m: usize) -> [usize; MAX_TERMS]
+    requires { ⌜ m ≤ maxTerms ⌝ }
     ensures { λ r. ⌜ r ≡ inOrder m (now (values .entry)) ⌝ }
 {
-    let mut o = [0usize; 32];
+    let mut o = [0usize; MAX_TERMS];
     order::order(values, &mut o[..m]);
     o
 }
@@ -210,11 +226,12 @@ fn answer(
     b: &[f64],
     fit_tol: f64,
     d: Factors,
-    order: [usize; 32],
+    order: [usize; MAX_TERMS],
 ) -> SolveOutcome
     requires { ⌜ Placed h (now w) (take m order) × (0 < m) × (length (take m order) ≡ m) × (rows + m ≤ h) × (length (now b) ≤ rows) ⌝ }
     ensures { λ r. ⌜ record { outcome = r; w = now (w .entry) }
-        ≡ answered h rows m (extended rows (now (b .entry))) «fit_tol» (record { norms = d .norms; w = now (w .entry); values = d .values; made = d .made; settled = d .settled }) order ⌝ }
+        ≡ answered h rows m (extended rows (now (b .entry))) «fit_tol»
+        (record { norms = d .norms; w = now (w .entry); values = d .values; made = d .made; settled = d .settled }) order ⌝ }
 {
     let norms = d.norms;
     let values = d.values;
@@ -253,8 +270,9 @@ pub fn solve_and_covariance(
     n: usize,
     fit_tol: f64,
 ) -> SolveOutcome
-    requires { ⌜ (0 < m) × (m ≤ 32) × (rows + m ≤ h) × (c + m * h ≤ length (now w)) × (n ≤ rows) × (b + n ≤ c) ⌝ }
-    ensures { λ r. ⌜ (record { outcome = r; w = part (now (w .exit)) c (m * h) } ≡ solved h rows m (part (now (w .entry)) c (m * h)) (part (now (w .entry)) b n) «fit_tol»)
+    requires { ⌜ (0 < m) × (m ≤ maxTerms) × (rows + m ≤ h) × (c + m * h ≤ length (now w)) × (n ≤ rows) × (b + n ≤ c) ⌝ }
+    ensures { λ r. ⌜ (record { outcome = r; w = part (now (w .exit)) c (m * h) } ≡ solved h rows m (part (now (w .entry)) c (m * h))
+        (part (now (w .entry)) b n) «fit_tol»)
         × Only c (m * h) (now (w .entry)) (now (w .exit)) ⌝ }
 {
     let k = m * h;
@@ -276,8 +294,9 @@ pub fn solve_damped(
     lambda: f64,
     fit_tol: f64,
 ) -> SolveOutcome
-    requires { ⌜ (0 < m) × (m ≤ 32) × (rows + m + m ≤ h) × (c + m * h ≤ length (now w)) × (b + rows ≤ c) ⌝ }
-    ensures { λ r. ⌜ (record { outcome = r; w = part (now (w .exit)) c (m * h) } ≡ solvedDamped h rows m (part (now (w .entry)) c (m * h)) (part (now (w .entry)) b rows) lambda «fit_tol»)
+    requires { ⌜ (0 < m) × (m ≤ maxTerms) × (rows + m + m ≤ h) × (c + m * h ≤ length (now w)) × (b + rows ≤ c) ⌝ }
+    ensures { λ r. ⌜ (record { outcome = r; w = part (now (w .exit)) c (m * h) } ≡ solvedDamped h rows m (part (now (w .entry)) c (m * h))
+        (part (now (w .entry)) b rows) lambda «fit_tol»)
         × Only c (m * h) (now (w .entry)) (now (w .exit)) ⌝ }
 {
     if lambda <= 0.0 {

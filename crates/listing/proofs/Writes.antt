@@ -1,25 +1,20 @@
--- Texts written one after the other, byte by byte in a loop, and names up to their first zero. Assumes nothing.
-use Prim.Native.Nat.{ℕ, suc, _+_, _≤_, _<_}
-use native.Mathlib.Nat.{add-zero, le-antisymm}
+-- Texts written one after the other, and byte by byte in a loop. Assumes nothing.
+use Prim.Native.Nat.{ℕ, _+_, _≤_, _<_}
+use native.Mathlib.Nat.{add-zero}
 use native.Mathlib.Numerals.{add-one}
 use native.Mathlib.Omega.{arith}
 use mathlib.Core.Path.{_≡_, refl, sym, ap, _∙_}
 use mathlib.Core.Bool.{cond}
-use mathlib.Core.List.{List, [], _∷_, _++_, append-nil}
-use borrow.Author.Tests.{eq-eqb, ne-eqb}
-use lib.ListN.{length, getD, take, drop, set, length-append, drop-of-length-le}
-use lib.Seq.{sets, length-sets, take-suc, take-all, drop-cons, append-snoc}
-use Rattle.terms.specs.Names.{nameOf}
+use mathlib.Core.List.{List, [], _∷_, _++_}
+use lib.ListN.{length, getD, take, set, length-append}
+use lib.Seq.{length-sets, take-suc, take-all}
+use Rattle.sequence.specs.Sequence.{concatTo}
+use Rattle.sequence.proofs.Parts.{sets-append}
+use Rattle.sequence.proofs.Concat.{concat-none, concat-next}
 use Rattle.harmonic.specs.Table.{ascii}
 use Rattle.solver.specs.declared.FitResult.{FitResult}
-use Rattle.listing.specs.Text.{spaced, newline, texts, Wrote}
+use Rattle.listing.specs.Text.{spaced, newline, Wrote}
 use Rattle.listing.specs.Listing.{countsLine}
-
-sets-append : (l : List ℕ) (i : ℕ) (xs ys : List ℕ) → sets l i (xs ++ ys) ≡ sets (sets l i xs) (i + length xs) ys
-sets-append l i [] ys = rw (add-zero i)
-sets-append l i (x ∷ xs) ys =
-    let e : suc i + length xs ≡ i + suc (length xs) = omega arith in
-    sets-append (set l i x) (suc i) xs ys ∙ ap (λ (k : ℕ). sets (sets (set l i x) (suc i) xs) k ys) e
 
 pub wrote-none : (i : ℕ) (d : List ℕ) → i ≤ length d → Wrote [] i d d i
 wrote-none i d h = record { buffer = refl; end = sym (add-zero i); room = h }
@@ -51,42 +46,14 @@ wrote-next text a b i k h g p =
 pub wrote-all : (text a b : List ℕ) (i k n : ℕ) → k ≡ length text → Wrote (take k text) i a b (i + k) → n ≡ i + k → Wrote text i a b n
 wrote-all text a b i k n h p e = rw (take-all k text (omega arith)) at (rw (← e) at p)
 
--- ---- a name
-
--- the bytes passed are the name's, and what is left has the rest of it
-abbrev pub Named : List ℕ → ℕ → Type 0
-Named s k = nameOf s ≡ take k s ++ nameOf (drop k s)
-
-pub named-next : (s : List ℕ) (k : ℕ) → k < length s → (getD s k 0 ≡ 0 → ⊥) → Named s k → Named s (k + 1)
-unfolding nameOf
-named-next s k h z e =
-    let d : nameOf (drop k s) ≡ getD s k 0 ∷ nameOf (drop (suc k) s) = rw (drop-cons s k 0 h, ne-eqb (getD s k 0) 0 z) in
-    rw (add-one k, take-suc s k 0 h) (e ∙ rw d (sym (append-snoc (take k s) (getD s k 0) (nameOf (drop (suc k) s)))))
-
-pub named-stop : (s : List ℕ) (k : ℕ) → k < length s → getD s k 0 ≡ 0 → Named s k → nameOf s ≡ take k s
-unfolding nameOf
-named-stop s k h z e =
-    let d : nameOf (drop k s) ≡ [] = rw (drop-cons s k 0 h, eq-eqb (getD s k 0) 0 z) in
-    e ∙ rw d (append-nil (take k s))
-
-pub named-end : (s : List ℕ) (k : ℕ) → length s ≤ k → Named s k → nameOf s ≡ take k s
-unfolding nameOf
-named-end s k h e =
-    let d : nameOf (drop k s) ≡ [] = rw (drop-of-length-le s h) in
-    e ∙ rw d (append-nil (take k s))
-
 -- ---- a loop that writes texts
 
-pub texts-start : (f : ℕ → List ℕ) (i : ℕ) (d : List ℕ) → i ≤ length d → Wrote (texts 0 f) i d d i
-unfolding texts
-texts-start f i d h = wrote-none i d h
+module _ (f : ℕ → List ℕ) where
+  pub wrote-texts-start : (i : ℕ) (d : List ℕ) → i ≤ length d → Wrote (concatTo 0 f) i d d i
+  wrote-texts-start i d h = rw (← concat-none f) (wrote-none i d h)
 
-pub texts-next : {a b c : List ℕ} {i j k : ℕ} (f : ℕ → List ℕ) (n : ℕ) → Wrote (texts n f) i a b j → Wrote (f n) j b c k → Wrote (texts (n + 1) f) i a c k
-unfolding texts
-texts-next f n p q = rw (add-one n) (wrote-then p q)
-
-pub texts-end : {a b : List ℕ} {i j : ℕ} (f : ℕ → List ℕ) (n k : ℕ) → n ≤ k → k ≤ n → Wrote (texts n f) i a b j → Wrote (texts k f) i a b j
-texts-end f n k p q w = rw (le-antisymm p q) at w
+  pub wrote-texts-next : {a b c : List ℕ} {i j k : ℕ} (n : ℕ) → Wrote (concatTo n f) i a b j → Wrote (f n) j b c k → Wrote (concatTo (n + 1) f) i a c k
+  wrote-texts-next n p q = rw (← concat-next f n) (wrote-then p q)
 
 -- ---- the first line
 

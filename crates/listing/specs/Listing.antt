@@ -3,11 +3,12 @@ use Prim.Native.Nat.{ℕ, _*_}
 use mathlib.Core.Bool.{cond}
 use mathlib.Core.List.{List, _++_}
 use lib.Ieee.{Float}
-use Rattle.sequence.specs.Sequence.{at, part}
+use Rattle.limits.specs.Limits.{slotBytes}
+use Rattle.sequence.specs.Sequence.{at, part, concatTo}
 use Rattle.harmonic.specs.Table.{ascii}
 use Rattle.terms.specs.Names.{nameOf, readTerm}
 use Rattle.solver.specs.declared.FitResult.{FitResult}
-use Rattle.listing.specs.Text.{spaced, bitsOf, newline, texts}
+use Rattle.listing.specs.Text.{spaced, bitsOf, newline}
 
 -- free, rank, iterations, converged
 unfoldable pub countsLine : FitResult → List ℕ
@@ -24,7 +25,7 @@ unfoldable pub termLine : List ℕ → Float → Float → List ℕ
 termLine slot coefficient sigma = nameOf (readTerm slot .term .name) ++ floats coefficient sigma
 
 unfoldable pub termLines : List ℕ → ℕ → List Float → List Float → List ℕ
-termLines names m coefficients sigma = texts m (λ j. termLine (part names (16 * j) 16) (at coefficients j) (at sigma j))
+termLines names m coefficients sigma = concatTo m (λ j. termLine (part names (slotBytes * j) slotBytes) (at coefficients j) (at sigma j))
 
 unfoldable pub skyLine : FitResult → List ℕ
 skyLine r = ascii "sky" ++ floats (r .«sky_rms») (r .«popn_sd»)

@@ -41,11 +41,6 @@ bitsOf x = hexadecimal (toBits binary64 x)
 abbrev pub newline : List ℕ
 newline = 10 ∷ []
 
--- f 0 to f (n - 1), one after the other
-unfoldable pub texts : ℕ → (ℕ → List ℕ) → List ℕ
-texts zero f = []
-texts (suc n) f = texts n f ++ f n
-
 -- a text was written at a place, all of it: the bytes before it and behind it are as they were, and `next` is the place behind it
 pub record Wrote (text : List ℕ) (place : ℕ) (was is : List ℕ) (next : ℕ) : Type 0 where
   pub buffer : is ≡ sets was place text

@@ -5,9 +5,11 @@ ghost use mathlib.Core.Path.{_≡_};
 ghost use mathlib.Core.List.{[], _∷_};
 ghost use Prim.Native.Nat.{_+_, _*_, _≤_, _<_};
 ghost use lib.ListN.{length};
+ghost use Rattle.limits.specs.Limits.{slotBytes};
 ghost use Rattle.terms.specs.Names.{nameOf};
 ghost use Rattle.listing.specs.Text.{digit, decimal, spaced, hexadecimal, bitsOf, Wrote};
 ghost use Rattle.listing.specs.Listing.{countsLine, floats, termLine, termLines, fitText, refusalText, listingRoom};
+use limits::SLOT;
 use solver::FitResult;
 
 // Room for any listing of 16 terms.
@@ -143,13 +145,14 @@ fn put_terms(
     coefficients: &[f64],
     sigma: &[f64],
 ) -> usize
-    requires { ⌜ (at + 51 * m ≤ length (now out)) × (16 * m ≤ length (now names)) × (m ≤ length (now coefficients)) × (m ≤ length (now sigma)) ⌝ }
-    ensures { λ r. ⌜ Wrote (termLines (now (names .entry)) m (now (coefficients .entry)) (now (sigma .entry))) at (now (out .entry)) (now (out .exit)) r × (r ≤ at + 51 * m) ⌝ }
+    requires { ⌜ (at + 51 * m ≤ length (now out)) × (slotBytes * m ≤ length (now names)) × (m ≤ length (now coefficients)) × (m ≤ length (now sigma)) ⌝ }
+    ensures { λ r. ⌜ Wrote (termLines (now (names .entry)) m (now (coefficients .entry)) (now (sigma .entry))) at (now (out .entry)) (now (out .exit)) r
+        × (r ≤ at + 51 * m) ⌝ }
 {
     let mut next = at;
     for j in 0..m {
-        let a = 16 * j;
-        next = put_term(out, next, &names[a..a + 16], coefficients[j], sigma[j]);
+        let a = SLOT * j;
+        next = put_term(out, next, &names[a..a + SLOT], coefficients[j], sigma[j]);
     }
     next
 }
@@ -163,7 +166,8 @@ pub fn put_fit(
     sigma: &[f64],
     r: FitResult,
 ) -> usize
-    requires { ⌜ (listingRoom ≤ length (now out)) × (m ≤ 16) × (16 * m ≤ length (now names)) × (m ≤ length (now coefficients)) × (m ≤ length (now sigma)) ⌝ }
+    requires { ⌜ (listingRoom ≤ length (now out)) × (m ≤ 16) × (slotBytes * m ≤ length (now names)) × (m ≤ length (now coefficients))
+        × (m ≤ length (now sigma)) ⌝ }
     ensures { λ n. ⌜ Wrote (fitText (now (names .entry)) m (now (coefficients .entry)) (now (sigma .entry)) r) 0 (now (out .entry)) (now (out .exit)) n ⌝ }
 {
     let a = put_counts(out, 0, r);

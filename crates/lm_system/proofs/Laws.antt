@@ -1,137 +1,134 @@
 -- What the residuals under a set and the step of a trial leave in scratch. Assumes nothing.
-use Prim.Native.Nat.{ℕ, _+_, _-_, _*_, _≤_, _<_}
-use native.Mathlib.Nat.{mul-le-mul-right, add-sub-cancel-left}
+use Prim.Native.Nat.{ℕ, _+_, _-_, _*_, _≤_}
+use native.Mathlib.Nat.{add-sub-cancel-left}
 use native.Mathlib.Omega.{arith}
-use mathlib.Core.Path.{_≡_, refl, sym, ap, _∙_, subst}
-use mathlib.Core.List.{List, _++_, zipWith}
-use lib.ListN.{length, take, drop}
-use lib.Seq.{sets}
+use mathlib.Core.Path.{_≡_, refl, sym, ap, _∙_}
+use mathlib.Core.List.{List, [], _++_, map, zipWith}
+use lib.ListN.{length, take, drop, length-append, length-drop}
+use lib.Seq.{sets, take-at, drop-at, drop-drop, length-take-le}
 use lib.Ieee.{Float, binary64, sub}
 use Rattle.sequence.specs.Sequence.{at, part, Only}
-use Rattle.sequence.proofs.Parts.{length-part, part-sets-same}
-use Rattle.sequence.proofs.Only.{only-sets, only-wider, only-then, back, back-only, back-part}
+use Rattle.sequence.proofs.Parts.{length-part, part-take, part-sets-same}
+use Rattle.sequence.proofs.Only.{only-sets, back, back-only, back-part}
 use Rattle.best.specs.ChiSquare.{chi}
 use Rattle.linalg.specs.declared.SolveOutcome.{SolveOutcome}
-use Rattle.linalg.specs.Linalg.{Solved, solvedDamped}
-use Rattle.solver.specs.Call.{FitInputs}
-use Rattle.design.specs.Design.{differences, predicted, freeCount, ofFree, weighing, stacked}
-use Rattle.design.specs.Filled.{differencesTo, skyRows}
-use Rattle.design.proofs.Free.{free-few}
-use Rattle.products.specs.Products.{weighedTo}
-use Rattle.products.proofs.Laws.{weighing-length}
+use Rattle.linalg.specs.Linalg.{solvedDamped}
+use Rattle.design.specs.Design.{RunInputs, runFrom, starsAt, sightsAt, termAt, column, differences, predicted, skyRows, weighing, weighedAt, stacked}
+use Rattle.design.specs.Counted.{Counted}
+use Rattle.design.proofs.Terms.{weighing-long}
+use Rattle.design.proofs.Runs.{rows-are, height-is, columns-are, sky-columns-are, differences-are, sky-rows-are}
 use Rattle.stats.specs.Stats.{sumSqSky}
-use Rattle.outcome.specs.Outcome.{starsOf, cosDecs, columnOf, skyOf, heightOf, Fits}
-use Rattle.outcome.proofs.Laws.{columnTo-at, skyTo-at, column-same, sky-same, differences-same, less-differences}
-use Rattle.lm_system.specs.System.{residuals, chi2Of, skyResiduals, weighedResiduals, weighedColumn, lmStep, Left, LmStepped}
+use Rattle.stats.proofs.Laws.{sum-sky-same}
+use Rattle.outcome.specs.Scratch.{countOf, heightIn, residualsIn, bIn, skyIn, columnsIn, solvedIn}
+use Rattle.lm_system.specs.System.{residualsUnder, skyResiduals, chi2At, weighedResiduals, lmStep}
 
--- ---- n stars' residuals at 2·n, copied to 4·n (w₁), where they come back as ys on the sky; copied to 6·n (w₂) and weighed at 4·n (w₃)
+-- ---- numbers lent from the front of a list, that came back as ys
 
-pub weighed-both : (n : ℕ) (cosDecs : ℕ → Float) (k : Float) (w w₁ ys w₂ w₃ : List Float) → 8 * n ≤ length w
-    → w₁ ≡ sets w (4 * n) (part w (2 * n) (2 * n))
-    → length ys ≡ length (take (4 * n + 2 * n - 4 * n) (drop (4 * n) w₁)) → ys ≡ skyRows n cosDecs (take (4 * n + 2 * n - 4 * n) (drop (4 * n) w₁))
-    → w₂ ≡ sets (back w₁ ys (4 * n) (2 * n)) (6 * n) (part (back w₁ ys (4 * n) (2 * n)) (4 * n) (2 * n))
-    → w₃ ≡ sets w₂ (4 * n) (weighing k (part w₂ (6 * n) (2 * n)) (part w₂ (4 * n) (2 * n)))
-    → (part w₃ (6 * n) (2 * n) ≡ skyRows n cosDecs (part w (2 * n) (2 * n)))
-    × (part w₃ (4 * n) (2 * n) ≡ weighing k (part w₃ (6 * n) (2 * n)) (part w₃ (6 * n) (2 * n))) × Only (4 * n) (4 * n) w w₃
-weighed-both n cosDecs k w w₁ ys w₂ w₃ room e₁ kept e e₂ e₃ =
-    let r = part w (2 * n) (2 * n) in
-    let cr : length r ≡ 2 * n = length-part w (2 * n) (2 * n) (omega arith) in
-    let o₁ : Only (4 * n) (2 * n) w w₁ = rw e₁ (only-sets w (4 * n) (2 * n) r (omega arith)) in
-    let long₁ : length w₁ ≡ length w = o₁ .long in
-    let at₁ : part w₁ (4 * n) (2 * n) ≡ r = ap (λ (v : List Float). part v (4 * n) (2 * n)) e₁ ∙ part-sets-same w (4 * n) (2 * n) r cr (omega arith) in
-    let b = back w₁ ys (4 * n) (2 * n) in
-    let room₁ : 4 * n + 2 * n ≤ length w₁ = omega arith in
-    let o = back-only w₁ ys (4 * n) (2 * n) room₁ kept in
-    let long : length b ≡ length w = o .long ∙ long₁ in
-    let cut : take (4 * n + 2 * n - 4 * n) (drop (4 * n) w₁) ≡ r = ap (λ (i : ℕ). take i (drop (4 * n) w₁)) (add-sub-cancel-left (4 * n) (2 * n)) ∙ at₁ in
-    let at : part b (4 * n) (2 * n) ≡ skyRows n cosDecs r = back-part w₁ ys (4 * n) (2 * n) room₁ kept ∙ e ∙ ap (skyRows n cosDecs) cut in
-    let z₂ = part b (4 * n) (2 * n) in
-    let c₂ : length z₂ ≡ 2 * n = length-part b (4 * n) (2 * n) (omega arith) in
-    let o₂ : Only (6 * n) (2 * n) b w₂ = rw e₂ (only-sets b (6 * n) (2 * n) z₂ (omega arith)) in
-    let long₂ : length w₂ ≡ length w = o₂ .long ∙ long in
-    let x = part w₂ (6 * n) (2 * n) in
-    let y = part w₂ (4 * n) (2 * n) in
-    let at₂ : x ≡ z₂ = ap (λ (v : List Float). part v (6 * n) (2 * n)) e₂ ∙ part-sets-same b (6 * n) (2 * n) z₂ c₂ (omega arith) in
-    let same : y ≡ x = o₂ .below (4 * n) (2 * n) (omega arith) ∙ sym at₂ in
-    let cx : length x ≡ 2 * n = length-part w₂ (6 * n) (2 * n) (omega arith) in
-    let cy : length y ≡ 2 * n = length-part w₂ (4 * n) (2 * n) (omega arith) in
-    let z₃ = weighing k x y in
-    let c₃ : length z₃ ≡ 2 * n = weighing-length k x y (cx ∙ sym cy) ∙ cy in
-    let o₃ : Only (4 * n) (2 * n) w₂ w₃ = rw e₃ (only-sets w₂ (4 * n) (2 * n) z₃ (omega arith)) in
-    let at₃ : part w₃ (6 * n) (2 * n) ≡ x = o₃ .above (6 * n) (2 * n) (omega arith) in (
-      at₃ ∙ at₂ ∙ at,
-      ap (λ (v : List Float). part v (4 * n) (2 * n)) e₃ ∙ part-sets-same w₂ (4 * n) (2 * n) z₃ c₃ (omega arith) ∙ ap (weighing k x) same ∙ ap (λ (v : List Float). weighing k v v) (sym at₃),
-      only-then (4 * n) (4 * n) w w₂ w₃
-          (only-then (4 * n) (4 * n) w b w₂
-          (only-then (4 * n) (4 * n) w w₁ b (only-wider (4 * n) (2 * n) (4 * n) (4 * n) w w₁ (omega arith) (omega arith) o₁) (only-wider (4 * n) (2 * n) (4 * n) (4 * n) w₁ b (omega arith) (omega arith) o))
-          (only-wider (6 * n) (2 * n) (4 * n) (4 * n) b w₂ (omega arith) (omega arith) o₂))
-          (only-wider (4 * n) (2 * n) (4 * n) (4 * n) w₂ w₃ (omega arith) (omega arith) o₃),
-    )
+pub front-back : (ys rest s : List Float) (m : ℕ) → length ys ≡ m → ys ≡ s → take m (ys ++ rest) ≡ s
+front-back ys rest s m long e = take-at ys rest m long ∙ e
 
--- ---- the residuals under a set: w₁ after the prediction, ys what comes back from the differences
+-- a part of those from i to e
+pub back-within : (l ys : List Float) (i e x j k : ℕ) → i ≤ e → e ≤ length l → length ys ≡ length (take (e - i) (drop i l)) → x ≡ i + j → j + k ≤ e - i
+    → part (take i l ++ (ys ++ drop (e - i) (drop i l))) x k ≡ part ys j k
+back-within l ys i e x j k low room kept is h =
+    let rest = drop (e - i) (drop i l) in
+    let b = take i l ++ (ys ++ rest) in
+    let long : length ys ≡ e - i = kept ∙ length-part l i (e - i) (omega arith) in
+    rw is
+    (ap (take k) (sym (drop-drop j i b))
+    ∙ ap (λ (r : List Float). part r j k) (drop-at (take i l) (ys ++ rest) i (length-take-le i l (omega arith)))
+    ∙ sym (part-take (ys ++ rest) j k (length ys) (omega arith) (simp length-append (omega arith)))
+    ∙ ap (λ (r : List Float). part r j k) (take-at ys rest (length ys) refl))
 
-module _ (l : FitInputs) (w : List Float) (f : Fits l w) where
-  pub under-state : (w₁ ys : List Float)
-      → (part w₁ (2 * length (l .dh)) (2 * length (l .pier)) ≡ predicted (2 * length (l .pier)) (length (l .coefficients)) (at (l .coefficients)) (columnTo-at l))
-      × Only 0 (2 * length (l .dh) + 2 * length (l .pier)) w w₁
-      → length ys ≡ length (take (2 * length (l .dh) + 2 * length (l .dh) - 2 * length (l .dh)) (drop (2 * length (l .dh)) w₁))
-      → ys ≡ zipWith (sub binary64) (differencesTo (l .dh) (l .dd)) (take (2 * length (l .dh) + 2 * length (l .dh) - 2 * length (l .dh)) (drop (2 * length (l .dh)) w₁))
-      → (part (back w₁ ys (2 * length (l .dh)) (2 * length (l .dh))) (2 * length (l .dh)) (2 * length (l .dh)) ≡ residuals l)
-      × Only 0 (4 * length (l .dh)) w (back w₁ ys (2 * length (l .dh)) (2 * length (l .dh)))
-  unfolding residuals
-  under-state w₁ ys p kept e =
-      let n = length (l .dh) in
-      let m = length (l .coefficients) in
-      let same = f .pier-count in
-      let q : (part w₁ (2 * n) (2 * n) ≡ predicted (2 * n) m (at (l .coefficients)) (columnTo-at l)) × Only 0 (2 * n + 2 * n) w w₁ = rw same at p in
-      let t = less-differences (sub binary64) w w₁ ys (differencesTo (l .dh) (l .dd)) _ (2 * n) (2 * n) (omega (arith, f .room)) q kept e in
-      let four : 2 * n + 2 * n ≡ 4 * n = omega arith in (
-        t .0 ∙ ap (λ (d : List Float). zipWith (sub binary64) d (predicted (2 * n) m (at (l .coefficients)) (columnTo-at l))) (differences-same l)
-            ∙ ap (λ a. zipWith (sub binary64) (differences (starsOf l)) (predicted (2 * n) m (at (l .coefficients)) a)) (column-same l same),
-        subst (λ (k : ℕ). Only 0 k w (back w₁ ys (2 * n) (2 * n))) four (t .1),
-      )
+-- ---- of v, n numbers have been copied behind themselves (v₁), have come back as f of them (ys), been copied again (v₂) and weighed by that (v₃)
+
+pub weighed-both : (f : List Float → List Float) (k : Float) (n r : ℕ) (v v₁ ys v₂ v₃ : List Float) → r ≡ n + n → r + n ≤ length v
+    → v₁ ≡ sets v n (part v 0 n) → length ys ≡ length (take (n + n - n) (drop n v₁)) → ys ≡ f (take (n + n - n) (drop n v₁))
+    → v₂ ≡ sets (back v₁ ys n n) r (part (back v₁ ys n n) n n) → v₃ ≡ sets v₂ n (weighing k (part v₂ r n) (part v₂ n n))
+    → (part v₃ r n ≡ f (part v 0 n)) × (part v₃ n n ≡ weighing k (part v₃ r n) (part v₃ r n))
+weighed-both f k n r v v₁ ys v₂ v₃ er room e₁ kept e e₂ e₃ =
+    let long₁ : length v₁ ≡ length v = rw e₁ (only-sets v n n (part v 0 n) (omega (arith, length-part v 0 n (omega arith))) .long) in
+    let at₁ : part v₁ n n ≡ part v 0 n = rw e₁ (part-sets-same v n n (part v 0 n) (length-part v 0 n (omega arith)) (omega arith)) in
+    let b = back v₁ ys n n in
+    let room₁ : n + n ≤ length v₁ = omega arith in
+    let cut : take (n + n - n) (drop n v₁) ≡ part v 0 n = ap (λ (i : ℕ). take i (drop n v₁)) (add-sub-cancel-left n n) ∙ at₁ in
+    let is : part b n n ≡ f (part v 0 n) = back-part v₁ ys n n room₁ kept ∙ e ∙ ap f cut in
+    let long : length b ≡ length v = back-only v₁ ys n n room₁ kept .long ∙ long₁ in
+    let z = part b n n in
+    let cz : length z ≡ n = length-part b n n (omega arith) in
+    let o₂ : Only r n b v₂ = rw e₂ (only-sets b r n z (omega arith)) in
+    let long₂ : length v₂ ≡ length v = o₂ .long ∙ long in
+    let at₂ : part v₂ r n ≡ z = rw e₂ (part-sets-same b r n z cz (omega arith)) in
+    let same : part v₂ n n ≡ z = o₂ .below n n (omega arith) in
+    let q : v₃ ≡ sets v₂ n (weighing k z z) = rw (at₂, same) at e₃ in
+    let cw : length (weighing k z z) ≡ n = weighing-long k z z refl ∙ cz in
+    let at₃ : part v₃ r n ≡ z = rw q (only-sets v₂ n n (weighing k z z) (omega arith) .above r n (omega arith)) ∙ at₂ in
+    (at₃ ∙ is, rw (at₃, q) (part-sets-same v₂ n n (weighing k z z) cw (omega arith)))
+
+-- ---- a run that is lent: `counted` says which
+
+module _ {l : RunInputs} (counted : Counted l) where
+  -- the 2·n numbers from 2·n on, as they are lent, and v when they have come back as ys
+  abbrev lent : List Float → List Float
+  lent v = take (2 * countOf l + 2 * countOf l - 2 * countOf l) (drop (2 * countOf l) v)
+
+  lent-is : (v : List Float) → lent v ≡ residualsIn l v
+  lent-is v = ap (λ (i : ℕ). take i (drop (2 * countOf l) v)) (add-sub-cancel-left (2 * countOf l) (2 * countOf l))
+
+  -- what a set predicts lies behind a column's room, and came back as the differences less it
+  pub under-set : (set v ys : List Float) → 4 * countOf l ≤ length v
+      → part v (2 * countOf l) (2 * countOf l)
+      ≡ predicted (2 * countOf l) (length set) (at set) (λ j. column (l .settings) (sightsAt (l .pier) (l .sheets) (l .used)) (termAt (l .names) j))
+      → length ys ≡ length (lent v) → ys ≡ zipWith (sub binary64) (differences (starsAt (l .dh) (l .dd) [] [] (l .used))) (lent v)
+      → residualsIn l (back v ys (2 * countOf l) (2 * countOf l)) ≡ residualsUnder (runFrom l) set
+  unfolding residualsUnder
+  under-set set v ys room p kept e =
+      let n = 2 * countOf l in
+      back-part v ys n n (omega arith) kept ∙ e ∙ rw (lent-is v, p, columns-are l, differences-are l, rows-are l) refl
 
   -- their chi-square
-  pub chi2-is : (w₁ : List Float) (s : Float) → part w₁ (2 * length (l .dh)) (2 * length (l .dh)) ≡ residuals l
-      → s ≡ sumSqSky (length (l .dh)) (cosDecs l) (take (2 * length (l .dh) + 2 * length (l .dh) - 2 * length (l .dh)) (drop (2 * length (l .dh)) w₁))
-      → s ≡ chi2Of l
-  unfolding chi2Of chi sumSqSky
-  chi2-is w₁ s p e =
-      let n = length (l .dh) in
-      e ∙ ap (sumSqSky n (cosDecs l)) (ap (λ (k : ℕ). take k (drop (2 * n) w₁)) (add-sub-cancel-left (2 * n) (2 * n)) ∙ p)
+  pub chi2-is : (set v : List Float) (s : Float) → residualsIn l v ≡ residualsUnder (runFrom l) set
+      → s ≡ sumSqSky (sightsAt [] (l .sheets) (l .used)) (lent v) → s ≡ chi2At (runFrom l) set
+  unfolding chi2At chi sumSqSky skyResiduals
+  chi2-is set v s p e =
+      e ∙ rw (lent-is v, p) (sym (sum-sky-same (l .dh) (l .dd) (l .pier) (l .sheets) (l .used) (residualsUnder (runFrom l) set)))
 
-  -- ---- the step: w₁ has both residuals, w₂ the columns, w₃ the solution
-  pub stepped : (w₁ w₂ w₃ : List Float) (free : ℕ) (k lambda : Float) (o : SolveOutcome) → Left l w → free ≡ freeCount (l .fixed)
-      → (part w₁ (6 * length (l .dh)) (2 * length (l .dh)) ≡ skyRows (length (l .dh)) (cosDecs l) (part w (2 * length (l .dh)) (2 * length (l .dh))))
-      × (part w₁ (4 * length (l .dh)) (2 * length (l .dh)) ≡ weighing k (part w₁ (6 * length (l .dh)) (2 * length (l .dh))) (part w₁ (6 * length (l .dh)) (2 * length (l .dh))))
-      × Only (4 * length (l .dh)) (4 * length (l .dh)) w w₁
-      → (part w₂ (8 * length (l .dh)) (freeCount (l .fixed) * heightOf l) ≡ stacked (heightOf l) (ofFree (l .fixed) (weighedTo k (part w₁ (6 * length (l .pier)) (2 * length (l .pier))) (l .sinLat) (l .cosLat) (l .names) (l .pier) (l .sheets)) (length (l .fixed))))
-      × Only (8 * length (l .dh)) (length (l .fixed) * heightOf l) w₁ w₂
-      → (record { outcome = o; w = part w₃ (8 * length (l .dh)) (free * heightOf l) }
-      ≡ solvedDamped (heightOf l) (2 * length (l .dh)) free (part w₂ (8 * length (l .dh)) (free * heightOf l)) (part w₂ (4 * length (l .dh)) (2 * length (l .dh))) lambda (l .fitTol))
-      × Only (8 * length (l .dh)) (free * heightOf l) w₂ w₃
-      → LmStepped l k lambda w w₃ o
-  unfolding lmStep skyResiduals
-  stepped w₁ w₂ w₃ free k lambda o left q p p₂ p₃ =
-      let n = length (l .dh) in
-      let sky : part w₁ (6 * n) (2 * n) ≡ skyResiduals l = p .0 ∙ ap (skyRows n (cosDecs l)) left in
-      let p₁ : (part w₁ (6 * n) (2 * n) ≡ skyResiduals l) × (part w₁ (4 * n) (2 * n) ≡ weighedResiduals l k) × Only (4 * n) (4 * n) w w₁ = (sky, p .1 ∙ ap (λ (v : List Float). weighing k v v) sky, p .2) in
-      let h = heightOf l in
-      let same = f .pier-count in
-      let sky₁ : part w₁ (6 * length (l .pier)) (2 * length (l .pier)) ≡ skyResiduals l = rw same (p₁ .0) in
-      let b₂ = p₂ .1 .below (4 * n) (2 * n) (omega arith) ∙ p₁ .1 in
-      let cols = p₂ .0 ∙ ap (λ (r : List Float). stacked h (ofFree (l .fixed) (λ j. weighing k r (skyTo-at l j)) (length (l .fixed)))) sky₁
-      ∙ ap (λ a. stacked h (ofFree (l .fixed) (λ j. weighing k (skyResiduals l) (a j)) (length (l .fixed)))) (sky-same l same) in
-      let s = rw q at (p₃ .0) in
-      let all = 8 * n + length (l .coefficients) * h in
-      let few : free ≤ length (l .coefficients) = rw (q, ← f .fixed-count) (free-few (l .fixed) (length (l .fixed))) in
-      let fixed : length (l .fixed) * h ≡ length (l .coefficients) * h = ap (λ (i : ℕ). i * h) (f .fixed-count) in
-      record {
-        solution = s ∙ ap (λ (a : List Float). solvedDamped h (2 * n) (freeCount (l .fixed)) a (part w₂ (4 * n) (2 * n)) lambda (l .fitTol)) cols
-            ∙ ap (λ (a : List Float). solvedDamped h (2 * n) (freeCount (l .fixed)) (stacked h (ofFree (l .fixed) (weighedColumn l k) (length (l .fixed)))) a lambda (l .fitTol)) b₂;
-        b = p₃ .1 .below (4 * n) (2 * n) (omega arith) ∙ b₂;
-        sky = p₃ .1 .below (6 * n) (2 * n) (omega arith) ∙ p₂ .1 .below (6 * n) (2 * n) (omega arith) ∙ p₁ .0;
-        only = only-then 0 all w w₂ w₃
-            (only-then 0 all w w₁ w₂ (only-wider (4 * n) (4 * n) 0 all w w₁ (omega arith) (omega arith) (p₁ .2)) (only-wider (8 * n) (length (l .fixed) * h) 0 all w₁ w₂ (omega arith) (omega (arith, fixed)) (p₂ .1)))
-            (only-wider (8 * n) (free * h) 0 all w₂ w₃ (omega arith) (omega (arith, mul-le-mul-right h few)) (p₃ .1));
-      }
+  -- w, whose numbers from 2·n to 8·n were lent and have come back as ys
+  abbrev pub there : List Float → List Float → List Float
+  there w ys = take (2 * countOf l) w ++ (ys ++ drop (8 * countOf l - 2 * countOf l) (drop (2 * countOf l) w))
+
+  -- they held the residuals of a set, which are now on the sky, and weighed
+  pub weighed-there : (set w ys : List Float) (k : Float) → 8 * countOf l ≤ length w → residualsIn l w ≡ residualsUnder (runFrom l) set
+      → length ys ≡ length (take (8 * countOf l - 2 * countOf l) (drop (2 * countOf l) w))
+      → (part ys (4 * countOf l) (2 * countOf l)
+      ≡ skyRows (sightsAt [] (l .sheets) (l .used)) (part (take (8 * countOf l - 2 * countOf l) (drop (2 * countOf l) w)) 0 (2 * countOf l)))
+      × (part ys (2 * countOf l) (2 * countOf l) ≡ weighing k (part ys (4 * countOf l) (2 * countOf l)) (part ys (4 * countOf l) (2 * countOf l)))
+      → (skyIn l (there w ys) ≡ skyResiduals (runFrom l) set) × (bIn l (there w ys) ≡ weighedResiduals (runFrom l) k set)
+  unfolding skyResiduals
+  weighed-there set w ys k room left kept p =
+      let n = countOf l in
+      let cut : part (take (8 * n - 2 * n) (drop (2 * n) w)) 0 (2 * n) ≡ residualsUnder (runFrom l) set =
+      part-take (drop (2 * n) w) 0 (2 * n) (8 * n - 2 * n) (omega arith) (simp length-drop (omega arith)) ∙ left in
+      let sky : part ys (4 * n) (2 * n) ≡ skyResiduals (runFrom l) set = p .0 ∙ rw cut (sky-rows-are l (residualsUnder (runFrom l) set)) in (
+        back-within w ys (2 * n) (8 * n) (6 * n) (4 * n) (2 * n) (omega arith) room kept (omega arith) (omega arith) ∙ sky,
+        back-within w ys (2 * n) (8 * n) (4 * n) (2 * n) (2 * n) (omega arith) room kept (omega arith) (omega arith) ∙ p .1 ∙ rw sky refl,
+      )
+
+  -- then the columns have been stacked, w₂, and solved, w₃
+  pub stepped : (set w₁ w₂ w₃ : List Float) (k lambda : Float) (o : SolveOutcome)
+      → (skyIn l w₁ ≡ skyResiduals (runFrom l) set) × (bIn l w₁ ≡ weighedResiduals (runFrom l) k set)
+      → (columnsIn l w₂
+      ≡ stacked (heightIn l) (map (weighedAt k (skyIn l w₁) (l .settings) (sightsAt (l .pier) (l .sheets) (l .used)) (l .names)) (l .free)))
+      × Only (8 * countOf l) (length (l .free) * heightIn l) w₁ w₂
+      → (solvedIn l w₃ o ≡ solvedDamped (heightIn l) (2 * countOf l) (length (l .free)) (columnsIn l w₂) (bIn l w₂) lambda (l .settings .«fit_tol»))
+      × Only (8 * countOf l) (length (l .free) * heightIn l) w₂ w₃
+      → (solvedIn l w₃ o ≡ lmStep (runFrom l) k lambda set) × ((bIn l w₃ ≡ weighedResiduals (runFrom l) k set) × (skyIn l w₃ ≡ skyResiduals (runFrom l) set))
+  unfolding lmStep
+  stepped set w₁ w₂ w₃ k lambda o p p₂ p₃ =
+      let n = countOf l in
+      let sky = skyResiduals (runFrom l) set in
+      let b₂ : bIn l w₂ ≡ weighedResiduals (runFrom l) k set = p₂ .1 .below (4 * n) (2 * n) (omega arith) ∙ p .1 in
+      let columns = rw (p .0) at (p₂ .0) ∙ ap (λ a. stacked (heightIn l) (map (λ j. weighing k sky (a j)) (l .free))) (sky-columns-are l) in (
+        p₃ .0 ∙ rw (columns, b₂, height-is l, rows-are l) refl,
+        (p₃ .1 .below (4 * n) (2 * n) (omega arith) ∙ b₂, p₃ .1 .below (6 * n) (2 * n) (omega arith) ∙ p₂ .1 .below (6 * n) (2 * n) (omega arith) ∙ p .0),
+      )

@@ -2,164 +2,168 @@
 // scratch is the one that outcome describes. After the functions below the loop in solver/iterated.rs.
 
 ghost use mathlib.Core.Path.{_≡_};
+ghost use mathlib.Core.List.{List, []};
 ghost use Prim.Native.Nat.{_+_, _*_, _≤_};
-ghost use lib.ListN.{length};
-ghost use Rattle.float.specs.Float.{_⊗_};
-ghost use Rattle.sequence.specs.Sequence.{at, part, filled, sumTo, Only};
-ghost use Rattle.column.specs.Column.{zeros};
-ghost use Rattle.design.specs.Design.{sheetAt, cosDec, weighing};
-ghost use Rattle.design.specs.Filled.{skyRows};
-ghost use Rattle.solver.specs.Call.{FitInputs, inputs};
-ghost use Rattle.outcome.specs.Outcome.{Fits};
-ghost use Rattle.lm_system.specs.System.{residuals as residualsOf, chi2Of, Left, movedAt, rotates as rotatesOf, rotational as rotationalOf, larger as largerOf, largest as largestOf, stepNorm, huberFrom, LmStepped};
+ghost use lib.ListN.{length, take};
+ghost use Rattle.limits.specs.Limits.{maxTerms, maxStars, sheetNumbers};
+ghost use Rattle.sequence.specs.Sequence.{part};
+ghost use Rattle.design.specs.Design.{RunInputs, runInputs, runFrom, sightsAt, termAt, skyRows, weighing};
+ghost use Rattle.design.specs.Counted.{Below, Named, Read, Counted};
+ghost use Rattle.outcome.specs.Scratch.{countOf, residualsIn, bIn, skyIn, solvedIn, Fits};
+ghost use Rattle.lm_system.specs.System.{residualsUnder, skyResiduals, chi2At, huberFrom, weighedResiduals, lmStep, moved};
+ghost use Rattle.lm_system.specs.System.{larger as largerOf, largest as largestOf, stepNorm};
+ghost use Rattle.lm_system.specs.Kinds.{rotates as rotatesOf, ofKind};
 use equatorial::EquatorialTerm;
+use limits::MAX_TERMS;
 use linalg::SolveOutcome;
 use solver::IterOptions;
+use solver::Settings;
 use terms::TermKind;
 
-// At 2·n, the differences less what a set predicts.
+// The differences less what a set predicts, behind a column's room in v, 4·n numbers.
 pub fn residuals_under_state(
     names: &[u8],
-    fixed: &[u8],
+    free: &[u16],
     set: &[f64],
     dh: &[f64],
     dd: &[f64],
     pier: &[u8],
     sheets: &[f64],
-    sin_lat: f64,
-    cos_lat: f64,
-    fit_tol: f64,
-    w: &mut [f64],
+    used: &[u16],
+    s: Settings,
+    v: &mut [f64],
 )
-    ghost { FitInputs }
-    requires { λ l. ⌜ inputs (now names) (now fixed) (now set) (now dh) (now dd) (now pier) (now sheets) «sin_lat» «cos_lat» «fit_tol» ≡ l ⌝ }
-    requires { λ l. ⌜ Fits l (now w) ⌝ }
-    ensures { λ l _. ⌜ (part (now (w .exit)) (2 * length (l .dh)) (2 * length (l .dh))
-        ≡ residualsOf l)
-        × Only 0 (4 * length (l .dh)) (now (w .entry)) (now (w .exit)) ⌝ }
+    ghost { RunInputs }
+    requires { λ l. ⌜ runInputs (length (now set)) (now names) (now free) (now dh) (now dd) (now pier) (now sheets) (now used) s ≡ l ⌝ }
+    requires { λ l. ⌜ Counted l × (length (now v) ≡ 4 * countOf l) ⌝ }
+    ensures { λ l _. ⌜ residualsIn l (now (v .exit)) ≡ residualsUnder (runFrom l) (now (set .entry)) ⌝ }
 {
-    let rows = 2 * dh.len();
-    products::predict(names, pier, sheets, sin_lat, cos_lat, set, w, rows);
-    design::subtract_from_differences(dh, dd, &mut w[rows..rows + rows]);
+    let rows = 2 * used.len();
+    design::predict(names, pier, sheets, used, s, set, v);
+    design::subtract_from_differences(dh, dd, used, &mut v[rows..rows + rows]);
 }
 
-// The chi-square of a set, whose residuals it leaves at 2·n.
+// The chi-square of a set, whose residuals it leaves there.
 pub fn chi2_at_state(
     names: &[u8],
-    fixed: &[u8],
+    free: &[u16],
     set: &[f64],
     dh: &[f64],
     dd: &[f64],
     pier: &[u8],
     sheets: &[f64],
-    sin_lat: f64,
-    cos_lat: f64,
-    fit_tol: f64,
-    w: &mut [f64],
+    used: &[u16],
+    s: Settings,
+    v: &mut [f64],
 ) -> f64
-    ghost { FitInputs }
-    requires { λ l. ⌜ inputs (now names) (now fixed) (now set) (now dh) (now dd) (now pier) (now sheets) «sin_lat» «cos_lat» «fit_tol» ≡ l ⌝ }
-    requires { λ l. ⌜ Fits l (now w) ⌝ }
-    ensures { λ l r. ⌜ (r ≡ chi2Of l) × Left l (now (w .exit)) × Only 0 (4 * length (l .dh)) (now (w .entry)) (now (w .exit)) ⌝ }
+    ghost { RunInputs }
+    requires { λ l. ⌜ runInputs (length (now set)) (now names) (now free) (now dh) (now dd) (now pier) (now sheets) (now used) s ≡ l ⌝ }
+    requires { λ l. ⌜ Counted l × (length (now v) ≡ 4 * countOf l) ⌝ }
+    ensures chi2 { λ l r. ⌜ r ≡ chi2At (runFrom l) (now (set .entry)) ⌝ }
+    ensures left { λ l _. ⌜ residualsIn l (now (v .exit)) ≡ residualsUnder (runFrom l) (now (set .entry)) ⌝ }
 {
-    residuals_under_state(
-        names,
-        fixed,
-        set,
-        dh,
-        dd,
-        pier,
-        sheets,
-        sin_lat,
-        cos_lat,
-        fit_tol,
-        w,
-    );
-    let n = dh.len();
-    let rows = 2 * n;
-    let v = &w[..];
-    stats::sum_sq_sky(sheets, &v[rows..rows + rows], n)
+    residuals_under_state(names, free, set, dh, dd, pier, sheets, used, s, v);
+    let rows = 2 * used.len();
+    let u = &v[..];
+    stats::sum_sq_sky(sheets, dh.len(), used, &u[rows..rows + rows])
 }
 
-// A row is weighed where its residual is above this; none is where this isn't above 0.
-pub fn huber_threshold(n: usize, fixed: &[u8], options: IterOptions, chi2: f64) -> f64
-    requires { ⌜ n ≤ 1024 ⌝ }
-    ensures { λ r. ⌜ r ≡ huberFrom n (now (fixed .entry)) options chi2 ⌝ }
+// A row is weighed where its residual is above this; none is where this isn't above 0. There are n stars.
+pub fn huber_threshold(n: usize, free: usize, options: IterOptions, chi2: f64) -> f64
+    requires { ⌜ n ≤ maxStars ⌝ }
+    ensures { λ r. ⌜ r ≡ huberFrom n free options chi2 ⌝ }
 {
     if !options.robust {
         return 0.0;
     }
     if chi2 > 0.0 {
-        let dof = stats::degrees(2 * n, design::free_count(fixed));
+        let dof = stats::degrees(2 * n, free);
         return options.huber_k * sqrt::sqrt(chi2 / dof as f64);
     }
     0.0
 }
 
-// Of n stars' residuals at 2·n: at 6·n those on the sky, and at 4·n the same weighed, b.
-fn weighed_residuals(sheets: &[f64], n: usize, k: f64, w: &mut [f64])
-    requires { ⌜ (n ≤ 1024) × (length (now sheets) ≡ 37 * n) × (8 * n ≤ length (now w)) ⌝ }
-    ensures { λ _. ⌜ (part (now (w .exit)) (6 * n) (2 * n) ≡ skyRows n (λ i. cosDec (sheetAt (now (sheets .entry)) i)) (part (now (w .entry)) (2 * n) (2 * n)))
-        × (part (now (w .exit)) (4 * n) (2 * n) ≡ weighing k (part (now (w .exit)) (6 * n) (2 * n)) (part (now (w .exit)) (6 * n) (2 * n)))
-        × Only (4 * n) (4 * n) (now (w .entry)) (now (w .exit)) ⌝ }
+// Of v, three vectors, the first of which are residuals: the third becomes those on the sky, and the second the same weighed, b. The sheets are those of
+// n stars.
+fn weighed_residuals(sheets: &[f64], n: usize, used: &[u16], k: f64, v: &mut [f64])
+    requires { ⌜ (length (now sheets) ≡ sheetNumbers * n) × Below n (now used) × (length (now used) ≤ maxStars) × (length (now v) ≡ 6 * length (now used)) ⌝ }
+    ensures sky { λ _. ⌜ part (now (v .exit)) (4 * length (now (used .entry))) (2 * length (now (used .entry)))
+        ≡ skyRows (sightsAt [] (now (sheets .entry)) (now (used .entry))) (part (now (v .entry)) 0 (2 * length (now (used .entry)))) ⌝ }
+    ensures b { λ _. ⌜ part (now (v .exit)) (2 * length (now (used .entry))) (2 * length (now (used .entry)))
+        ≡ weighing k (part (now (v .exit)) (4 * length (now (used .entry))) (2 * length (now (used .entry))))
+        (part (now (v .exit)) (4 * length (now (used .entry))) (2 * length (now (used .entry)))) ⌝ }
 {
-    let rows = 2 * n;
-    let b = 4 * n;
-    let r = 6 * n;
-    design::copy(w, rows, b, rows);
-    design::scale_ha_rows(sheets, n, &mut w[b..b + rows]);
-    design::copy(w, b, r, rows);
-    design::weigh(w, b, r, rows, k);
+    let rows = 2 * used.len();
+    let r = 2 * rows;
+    design::copy(v, 0, rows, rows);
+    design::scale_ha_rows(sheets, n, used, &mut v[rows..rows + rows]);
+    design::copy(v, rows, r, rows);
+    design::weigh(v, rows, r, rows, k);
 }
 
-// The solution of the system at a set, whose residuals lie at 2·n: with the weights that belong to k, and with a damping. It leaves the residuals on the sky at 6·n, b at 4·n,
-// and the solved columns at 8·n.
+// The solution of the system at a set, whose residuals lie at 2·n: with the weights that belong to k, and with a damping. It leaves b at 4·n, the residuals
+// on the sky at 6·n, and the solved columns at 8·n.
 pub fn lm_step(
     names: &[u8],
-    fixed: &[u8],
+    free: &[u16],
     set: &[f64],
     dh: &[f64],
     dd: &[f64],
     pier: &[u8],
     sheets: &[f64],
-    sin_lat: f64,
-    cos_lat: f64,
-    fit_tol: f64,
+    used: &[u16],
+    s: Settings,
     k: f64,
     lambda: f64,
     w: &mut [f64],
 ) -> SolveOutcome
-    ghost { FitInputs }
-    requires { λ l. ⌜ inputs (now names) (now fixed) (now set) (now dh) (now dd) (now pier) (now sheets) «sin_lat» «cos_lat» «fit_tol» ≡ l ⌝ }
-    requires { λ l. ⌜ Fits l (now w) × Left l (now w) ⌝ }
-    ensures { λ l r. ⌜ LmStepped l k lambda (now (w .entry)) (now (w .exit)) r ⌝ }
+    ghost { RunInputs }
+    requires { λ l. ⌜ runInputs (length (now set)) (now names) (now free) (now dh) (now dd) (now pier) (now sheets) (now used) s ≡ l ⌝ }
+    requires { λ l. ⌜ Fits l (now w) × (residualsIn l (now w) ≡ residualsUnder (runFrom l) (now set)) ⌝ }
+    ensures solution { λ l r. ⌜ solvedIn l (now (w .exit)) r ≡ lmStep (runFrom l) k lambda (now (set .entry)) ⌝ }
+    ensures b { λ l _. ⌜ bIn l (now (w .exit)) ≡ weighedResiduals (runFrom l) k (now (set .entry)) ⌝ }
+    ensures sky { λ l _. ⌜ skyIn l (now (w .exit)) ≡ skyResiduals (runFrom l) (now (set .entry)) ⌝ }
 {
-    let n = dh.len();
+    let n = used.len();
     let rows = 2 * n;
     let h = rows + 2 * set.len();
     let b = 4 * n;
     let c = 8 * n;
-    let free = design::free_count(fixed);
-    weighed_residuals(sheets, n, k, w);
-    products::free_columns(names, fixed, pier, sheets, sin_lat, cos_lat, k, w, c, h);
-    linalg::solve_damped(w, c, h, rows, free, b, lambda, fit_tol)
+    weighed_residuals(sheets, dh.len(), used, k, &mut w[rows..c]);
+    design::free_columns(names, free, pier, sheets, used, s, k, w, c, h);
+    linalg::solve_damped(w, c, h, rows, free.len(), b, lambda, s.fit_tol)
 }
 
-// The set that a step leads to, with zeros after it: each free coefficient moves by its place in x.
-pub fn trial_state_from(fixed: &[u8], x: &[f64; 32], set: &[f64]) -> [f64; 32]
-    requires { ⌜ (length (now set) ≤ 32) × (length (now fixed) ≡ length (now set)) ⌝ }
-    ensures { λ r. ⌜ r ≡ filled (length (now (set .entry))) (movedAt (now (fixed .entry)) (now (x .entry)) (now (set .entry))) zeros ⌝ }
+// The numbers of a set, and zeros after them.
+fn padded(set: &[f64]) -> [f64; MAX_TERMS]
+    requires { ⌜ length (now set) ≤ maxTerms ⌝ }
+    ensures { λ r. ⌜ take (length (now (set .entry))) r ≡ now (set .entry) ⌝ }
 {
-    let mut trial = [0.0; 32];
-    let mut fi = 0usize;
-    for j in 0..set.len() {
-        if fixed[j] == 0 {
-            trial[j] = set[j] + x[fi];
-            fi += 1;
-        } else {
-            trial[j] = set[j];
-        }
+    let mut t = [0.0; MAX_TERMS];
+    let m = set.len();
+    sequence::copy(set, &mut t[..m]);
+    t
+}
+
+// Each free coefficient of a set moves by its place in x.
+fn move_free(free: &[u16], x: &[f64; MAX_TERMS], set: &mut [f64])
+    requires { ⌜ (length (now free) ≤ maxTerms) × Below (length (now set)) (now free) ⌝ }
+    ensures { λ _. ⌜ now (set .exit) ≡ moved (now (free .entry)) (now (x .entry)) (now (set .entry)) ⌝ }
+{
+    for i in 0..free.len() {
+        let j = sequence::index(free[i]);
+        set[j] = set[j] + x[i];
     }
+}
+
+// The set that a step x leads to, at the front of an array.
+pub fn trial_state_from(free: &[u16], x: &[f64; MAX_TERMS], set: &[f64]) -> [f64; MAX_TERMS]
+    requires { ⌜ (length (now set) ≤ maxTerms) × (length (now free) ≤ maxTerms) × Below (length (now set)) (now free) ⌝ }
+    ensures { λ r. ⌜ take (length (now (set .entry))) r ≡ moved (now (free .entry)) (now (x .entry)) (now (set .entry)) ⌝ }
+{
+    let mut trial = padded(set);
+    let m = set.len();
+    move_free(free, x, &mut trial[..m]);
     trial
 }
 
@@ -186,7 +190,7 @@ fn rotates(t: EquatorialTerm) -> bool
 }
 
 fn rotational(kind: TermKind) -> bool
-    ensures { λ r. ⌜ r ≡ rotationalOf kind ⌝ }
+    ensures { λ r. ⌜ r ≡ ofKind kind ⌝ }
 {
     match kind {
         TermKind::Equatorial(t) => rotates(t),
@@ -196,7 +200,7 @@ fn rotational(kind: TermKind) -> bool
 
 // The larger of `most` and the step x of a term, in radians, if the term is rotational.
 fn larger(kind: TermKind, x: f64, most: f64) -> f64
-    ensures { λ r. ⌜ r ≡ largerOf kind x most ⌝ }
+    ensures { λ r. ⌜ r ≡ largerOf (ofKind kind) x most ⌝ }
 {
     if !rotational(kind) {
         return most;
@@ -209,43 +213,27 @@ fn larger(kind: TermKind, x: f64, most: f64) -> f64
 }
 
 // The largest step of a free rotational term, in radians.
-fn largest(names: &[u8], fixed: &[u8], x: &[f64; 32]) -> f64
-    requires { ⌜ (length (now fixed) ≤ 32) × (length (now names) ≡ 16 * length (now fixed)) ⌝ }
-    ensures { λ r. ⌜ r ≡ largestOf (now (names .entry)) (now (fixed .entry)) (now (x .entry)) ⌝ }
+fn largest(names: &[u8], free: &[u16], x: &[f64]) -> f64
+    requires { ⌜ Named (now names) (now free) × Read (now names) (now free) × (length (now x) ≡ length (now free)) ⌝ }
+    ensures { λ r. ⌜ r ≡ largestOf (termAt (now (names .entry))) (now (free .entry)) (now (x .entry)) ⌝ }
 {
     let mut most = 0.0;
-    let mut fi = 0usize;
-    for j in 0..fixed.len() {
-        if fixed[j] == 0 {
-            let term = products::term_at(names, j);
-            let kind = term.kind;
-            most = larger(kind, x[fi], most);
-            fi += 1;
-        }
+    for i in 0..free.len() {
+        let term = design::term_at(names, sequence::index(free[i]));
+        let kind = term.kind;
+        most = larger(kind, x[i], most);
     }
     most
 }
 
-// The sum of the squares of the first n numbers of x.
-fn squares(x: &[f64; 32], n: usize) -> f64
-    requires { ⌜ n ≤ 32 ⌝ }
-    ensures { λ r. ⌜ r ≡ sumTo n (λ i. at (now (x .entry)) i ⊗ at (now (x .entry)) i) ⌝ }
-{
-    let mut s = 0.0;
-    for i in 0..n {
-        s = s + x[i] * x[i];
-    }
-    s
-}
-
 // The length of a step, in radians: that of the largest rotational one, or of all where no rotational term moves.
-pub fn rotational_step_norm(names: &[u8], fixed: &[u8], x: &[f64; 32]) -> f64
-    requires { ⌜ (length (now fixed) ≤ 32) × (length (now names) ≡ 16 * length (now fixed)) ⌝ }
-    ensures { λ r. ⌜ r ≡ stepNorm (now (names .entry)) (now (fixed .entry)) (now (x .entry)) ⌝ }
+pub fn rotational_step_norm(names: &[u8], free: &[u16], x: &[f64]) -> f64
+    requires { ⌜ Named (now names) (now free) × Read (now names) (now free) × (length (now x) ≡ length (now free)) ⌝ }
+    ensures { λ r. ⌜ r ≡ stepNorm (termAt (now (names .entry))) (now (free .entry)) (now (x .entry)) ⌝ }
 {
-    let most = largest(names, fixed, x);
+    let most = largest(names, free, x);
     if most == 0.0 {
-        return sqrt::sqrt(squares(x, design::free_count(fixed))) / 206264.806247;
+        return sqrt::sqrt(sequence::sum_squares(x)) / 206264.806247;
     }
     most
 }

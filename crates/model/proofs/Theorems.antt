@@ -29,7 +29,9 @@ use Rattle.model.specs.Correction.{pointRefusal, corrected, correctionAt
 use Rattle.model.specs.declared.PointingModel.{PointingModel}
 use Rattle.model.specs.declared.Breakdown.{Breakdown}
 use Rattle.model.specs.declared.Correction.the-variants.{Given}
-use Rattle.model.proofs.Laws.{Passed, passed, passes, some-last, some-stop, same-itself}
+use Rattle.sequence.proofs.Tests.{some-last, some-stop}
+use Rattle.terms.proofs.Same.{same-itself}
+use Rattle.model.proofs.Laws.{Passed, passed, passes}
 use Rattle.model.proofs.Stored.{read-stored}
 
 -- ---- a model that passes every question

@@ -3,6 +3,8 @@
 ghost use mathlib.Core.Path.{_≡_};
 ghost use lib.ListN.{length};
 ghost use Rattle.model.specs.Model.{refusalOf};
+use limits::MAX_TERMS;
+use limits::SLOT;
 
 // Whether what else a call takes has its length (2), its numbers are finite (4) and its code is known (5) is given. The number of the first
 // no, or 0.
@@ -16,10 +18,10 @@ pub fn refusal_of(
     ensures { λ r. ⌜ r ≡ refusalOf (length (now (coefficients .entry))) (now (names .entry)) (now (coefficients .entry)) counted finite known ⌝ }
 {
     let m = coefficients.len();
-    if 32 < m {
+    if MAX_TERMS < m {
         return 1;
     }
-    if names.len() != 16 * m {
+    if names.len() != SLOT * m {
         return 2;
     }
     if !counted {

@@ -4,9 +4,12 @@ ghost use mathlib.Core.Path.{_≡_};
 ghost use Prim.Native.Nat.{_+_, _*_, _≤_, _<_};
 ghost use lib.ListN.{length};
 ghost use lib.Seq.{sets};
+ghost use Rattle.limits.specs.Limits.{maxTerms, slotBytes};
 ghost use Rattle.sequence.specs.Sequence.{at, filled};
 ghost use Rattle.terms.specs.Names.{same};
 ghost use Rattle.model.specs.Slots.{noNames, noNumbers, hasName};
+use limits::MAX_TERMS;
+use limits::SLOT;
 
 pub fn no_names() -> [u8; 512]
     ensures { λ r. ⌜ r ≡ noNames ⌝ }
@@ -14,10 +17,10 @@ pub fn no_names() -> [u8; 512]
     [0u8; 512]
 }
 
-pub fn no_numbers() -> [f64; 32]
+pub fn no_numbers() -> [f64; MAX_TERMS]
     ensures { λ r. ⌜ r ≡ noNumbers ⌝ }
 {
-    [0.0; 32]
+    [0.0; MAX_TERMS]
 }
 
 // Whether two texts of one length are the same.
@@ -35,12 +38,12 @@ fn same_bytes(a: &[u8], b: &[u8]) -> bool
 
 // Whether one of the first count slots is read as the term of a stored name, however it is spelled there.
 pub fn has_name(names: &[u8], count: usize, stored: &[u8]) -> bool
-    requires { ⌜ (16 * count ≤ length (now names)) × (length (now stored) ≡ 16) ⌝ }
+    requires { ⌜ (slotBytes * count ≤ length (now names)) × (length (now stored) ≡ slotBytes) ⌝ }
     ensures { λ r. ⌜ r ≡ hasName (now (names .entry)) count (now (stored .entry)) ⌝ }
 {
     for i in 0..count {
-        let a = 16 * i;
-        let reading = terms::read_term(&names[a..a + 16]);
+        let a = SLOT * i;
+        let reading = terms::read_term(&names[a..a + SLOT]);
         let term = reading.term;
         let name = term.name;
         if same_bytes(&name, stored) {
@@ -51,11 +54,11 @@ pub fn has_name(names: &[u8], count: usize, stored: &[u8]) -> bool
 }
 
 // The names with a stored one in slot i.
-pub fn with_name(mut names: [u8; 512], i: usize, stored: [u8; 16]) -> [u8; 512]
-    requires { ⌜ i < 32 ⌝ }
-    ensures { λ r. ⌜ r ≡ sets names (16 * i) stored ⌝ }
+pub fn with_name(mut names: [u8; 512], i: usize, stored: [u8; SLOT]) -> [u8; 512]
+    requires { ⌜ i < maxTerms ⌝ }
+    ensures { λ r. ⌜ r ≡ sets names (slotBytes * i) stored ⌝ }
 {
-    let a = 16 * i;
+    let a = SLOT * i;
     for k in 0..16usize {
         names[a + k] = stored[k];
     }
@@ -63,8 +66,8 @@ pub fn with_name(mut names: [u8; 512], i: usize, stored: [u8; 16]) -> [u8; 512]
 }
 
 // The coefficients with these in their first places.
-pub fn with_coefficients(mut all: [f64; 32], first: &[f64]) -> [f64; 32]
-    requires { ⌜ length (now first) ≤ 32 ⌝ }
+pub fn with_coefficients(mut all: [f64; MAX_TERMS], first: &[f64]) -> [f64; MAX_TERMS]
+    requires { ⌜ length (now first) ≤ maxTerms ⌝ }
     ensures { λ r. ⌜ r ≡ filled (length (now (first .entry))) (at (now (first .entry))) all ⌝ }
 {
     for i in 0..first.len() {

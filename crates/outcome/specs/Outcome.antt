@@ -1,12 +1,10 @@
--- What both fits are made of: the columns of a call by the list of its stars, and what a fit answers and leaves. Definitions only.
-use Prim.Native.Nat.{ℕ, zero, suc, _+_, _*_, _≤_, _<_}
-use mathlib.Core.Path.{_≡_}
+-- What both fits are made of after their last solve: sigma, diagnostics, the answer, and what each buffer holds at the end. Definitions only.
+use Prim.Native.Nat.{ℕ, zero, suc, _+_, _*_}
 use mathlib.Core.List.{List, [], _∷_, _++_}
 use lib.ListN.{length, drop, replicate}
 use lib.Ieee.{Float}
 use Rattle.float.specs.Float.{#0}
-use Rattle.sequence.specs.Sequence.{at, filled}
-use Rattle.column.specs.Column.{zeros}
+use Rattle.sequence.specs.Sequence.{at}
 use Rattle.linalg.specs.declared.SolveOutcome.{SolveOutcome}
 use Rattle.linalg.specs.Linalg.{Solved, leverageAfter}
 use Rattle.solver.specs.declared.Fit.{Fit}
@@ -14,61 +12,38 @@ use Rattle.solver.specs.declared.Fit.the-variants.{Done}
 use Rattle.solver.specs.declared.FitResult.{FitResult}
 use Rattle.solver.specs.declared.IterReport.{IterReport}
 use Rattle.solver.specs.declared.ObsDiagnostic.{ObsDiagnostic}
-use Rattle.solver.specs.Call.{FitInputs, Buffers, buffers}
-use Rattle.validate.specs.Questions.{scratchNeeded}
-use Rattle.design.specs.Design.{Star, stars, termAt, sheetAt, cosDec, freeCount, column, skyColumn}
+use Rattle.solver.specs.declared.Settings.{Settings}
+use Rattle.solver.specs.Call.{Buffers, buffers}
+use Rattle.design.specs.Design.{Run, heightOf, scattered}
+use Rattle.stats.specs.declared.Sky.{Sky}
 use Rattle.stats.specs.Stats.{skyFrom, variance, sigmaAt, deviation, diagnostic}
 
--- ---- a call's stars and columns
+-- ---- statistics of a run, from the last solve and the residuals res that it left
 
-abbrev pub starsOf : FitInputs → List Star
-starsOf l = stars (l .dh) (l .dd) (l .pier) (l .sheets)
+-- compute_sigma_from_covariance: 0 in a fixed term's place
+unfoldable pub sigmaOf : Run → SolveOutcome → List Float → List Float
+sigmaOf r o res = scattered (r .free) (sigmaAt (variance res (length (r .stars)) (o .rank)) (o .«cov_diag»)) (replicate (r .m) #0)
 
--- cos dec of star i
-abbrev pub cosDecs : FitInputs → ℕ → Float
-cosDecs l i = cosDec (sheetAt (l .sheets) i)
-
--- the column of term j, and the same on the sky
-abbrev pub columnOf : FitInputs → ℕ → List Float
-columnOf l j = column (l .sinLat) (l .cosLat) (starsOf l) (termAt (l .names) j)
-
-abbrev pub skyOf : FitInputs → ℕ → List Float
-skyOf l j = skyColumn (l .sinLat) (l .cosLat) (starsOf l) (termAt (l .names) j)
-
--- how many rows the data have, and how many numbers a column of scratch
-abbrev pub rowsOf : FitInputs → ℕ
-rowsOf l = 2 * length (l .dh)
-
-abbrev pub heightOf : FitInputs → ℕ
-heightOf l = rowsOf l + 2 * length (l .coefficients)
-
--- ---- statistics, from the last solve and the residuals r that it left
-
-unfoldable pub sigmaOf : FitInputs → SolveOutcome → List Float → List Float
-sigmaOf l o r = filled (length (l .coefficients)) (sigmaAt (l .fixed) (variance r (length (l .dh)) (o .rank)) (o .«cov_diag»)) zeros
-
--- compute_diagnostics: of star i, from the residuals r of n stars and each row's leverage
+-- compute_diagnostics: of star i, from the residuals res of n stars and each row's leverage
 abbrev pub diagnosticFrom : ℕ → ℕ → List Float → (ℕ → Float) → ℕ → ObsDiagnostic
-diagnosticFrom n rank r leverage i =
-    diagnostic (deviation r (2 * n) rank) (at r (2 * i)) (at r (2 * i + 1)) (leverage (2 * i)) (leverage (2 * i + 1))
+diagnosticFrom n rank res leverage i =
+    diagnostic (deviation res (2 * n) rank) (at res (2 * i)) (at res (2 * i + 1)) (leverage (2 * i)) (leverage (2 * i + 1))
 
-unfoldable pub diagnosticOf : FitInputs → Solved → List Float → ℕ → ObsDiagnostic
-diagnosticOf l s r = diagnosticFrom (length (l .dh)) (s .outcome .rank) r (leverageAfter (heightOf l) (freeCount (l .fixed)) s)
+unfoldable pub diagnosticOf : Run → Solved → List Float → ℕ → ObsDiagnostic
+diagnosticOf r s res = diagnosticFrom (length (r .stars)) (s .outcome .rank) res (leverageAfter (heightOf r) (length (r .free)) s)
 
 -- residual, leverage and studentized residual of n stars, one star after the other
 unfoldable pub diagnosticNumbers : ℕ → (ℕ → ObsDiagnostic) → List Float
 diagnosticNumbers zero d = []
 diagnosticNumbers (suc n) d = diagnosticNumbers n d ++ (d n .«residual_sky» ∷ d n .leverage ∷ d n .studentized ∷ [])
 
--- what a fit answers, from the last solve and the residuals r under the set that is returned
-unfoldable pub resultOf : FitInputs → SolveOutcome → List Float → IterReport → FitResult
-resultOf l o r report =
-    let free = freeCount (l .fixed) in
-    let sky = skyFrom (length (l .dh)) (cosDecs l) free r in
+-- what a fit answers, from the last solve and what is left on the sky under the set that is returned
+abbrev pub answerOf : ℕ → Settings → SolveOutcome → Sky → IterReport → FitResult
+answerOf free c o sky report =
     record {
       «sky_rms» = sky .rms;
       «popn_sd» = sky .«popn_sd»;
-      «rank_info» = record { «n_free» = free; rank = o .rank; «sigma_max» = o .«sigma_max»; «sigma_min» = o .«sigma_min»; tol = l .fitTol };
+      «rank_info» = record { «n_free» = free; rank = o .rank; «sigma_max» = o .«sigma_max»; «sigma_min» = o .«sigma_min»; tol = c .«fit_tol» };
       «iter_report» = report;
     }
 
@@ -81,30 +56,18 @@ pub record Outcome : Type 0 where
 abbrev pub outcome : Fit → Buffers → Outcome
 outcome f b = record { answer = f; left = b }
 
--- an accepted fit: the set, its change, the last solve and the residuals r that it left, and the answer
-unfoldable pub finished : FitInputs → Buffers → List Float → List Float → Solved → List Float → FitResult → Outcome
-finished l b set change s r answer =
-    let m = length (l .coefficients) in
-    let n = length (l .dh) in
-    let need = scratchNeeded m n in
+-- an accepted fit of a run that needs so much of scratch: the set, its change, the last solve and the residuals res that it left, the residuals under
+-- the set, and how it was come to
+unfoldable pub finished : Run → ℕ → Buffers → List Float → List Float → Solved → List Float → List Float → IterReport → Outcome
+finished r need b set change s res under report =
+    let m = r .m in
+    let n = length (r .stars) in
+    let free = length (r .free) in
     outcome
-    (Done answer)
+    (Done (answerOf free (r .settings) (s .outcome) (skyFrom (r .stars) free under) report))
     (buffers
-    (filled m (at set) (b .coefficients))
-    (filled m (at change) (b .change))
-    (filled m (at (sigmaOf l (s .outcome) r)) (b .sigma))
-    (diagnosticNumbers n (diagnosticOf l s r) ++ drop (3 * n) (b .diagnostics))
+    (set ++ drop m (b .coefficients))
+    (change ++ drop m (b .change))
+    (sigmaOf r (s .outcome) res ++ drop m (b .sigma))
+    (diagnosticNumbers n (diagnosticOf r s res) ++ drop (3 * n) (b .diagnostics))
     (replicate need #0 ++ drop need (b .scratch)))
-
--- ---- what a fit counts on: as `Ready`, with room for every term's column from 8·n on
-
-pub record Fits (l : FitInputs) (w : List Float) : Type 0 where
-  pub terms : length (l .coefficients) ≤ 32
-  pub stars : length (l .dh) ≤ 1024
-  pub names-count : length (l .names) ≡ 16 * length (l .coefficients)
-  pub fixed-count : length (l .fixed) ≡ length (l .coefficients)
-  pub dd-count : length (l .dd) ≡ length (l .dh)
-  pub pier-count : length (l .pier) ≡ length (l .dh)
-  pub sheets-count : length (l .sheets) ≡ 37 * length (l .dh)
-  pub some-free : 0 < freeCount (l .fixed)
-  pub room : 8 * length (l .dh) + length (l .coefficients) * heightOf l ≤ length w

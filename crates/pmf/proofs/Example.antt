@@ -5,7 +5,7 @@ use mathlib.Core.List.{List, [], _∷_, _++_, zipWith}
 use lib.ListN.{replicate}
 use lib.Ieee.{ofBits, ofInt, neg, add, sub, mul, div, lt, le, eq, toBits}
 use Rattle.float.specs.Float.{abs, isFinite}
-use Rattle.sequence.specs.Sequence.{table, filled, each, sumTo, sumBut, dot}
+use Rattle.sequence.specs.Sequence.{table, concatTo, filled, each, sumTo, sumBut, dot}
 use Rattle.sqrt.specs.Sqrt as Root
 use Rattle.observation.specs.Sheet.{pointOf}
 use Rattle.harmonic.specs.Table.{ascii}
@@ -18,9 +18,9 @@ use Rattle.column.specs.Column.{norm, norms, scaleOf, scaledColumn, unitColumn,
 use Rattle.order.specs.Order.{best, order}
 use Rattle.linalg.specs.Linalg.{decomposed, threshold, inverse, inverses, rankTo, projected, xScaled, solution, scaledVariance, covariance, leverageOf, answered, solved}
 use Rattle.design.specs.Design as Design
-use Rattle.design.specs.Design.{stars, column, skyColumn, differences, skyDifferences, freeBefore, ofFree, subtractAll, product, freeProduct, stacked}
-use Rattle.validate.specs.Questions.{limits, counts, scratchNeeded, room, finiteInput, finiteOptions, codesKnown, asked}
-use Rattle.stats.specs.Stats.{sumSqSky, skyRms, popnSd, variance, sigmaAt, deviation, clamped, studentizedRow, diagnostic}
+use Rattle.design.specs.Design.{kept, collectIndices, column, skyColumn, differences, skyRows, skyDifferences, subtractAll, product, scattered, stacked}
+use Rattle.validate.specs.Questions.{limits, counts, scratchNeeded, room, finiteSettings, finiteInput, finiteOptions, codesKnown, asked}
+use Rattle.stats.specs.Stats.{sumSqSky, skyFrom, variance, deviation, clamped, studentizedRow, diagnostic}
 use Rattle.single_step.specs.SingleStep as Step
 use Rattle.outcome.specs.Outcome as Out
 use Rattle.listing.specs.Text as Text
@@ -66,5 +66,13 @@ file =
     ++ (1 ∷ []) ++ #0 ++ #-10 ++ sheet
 
 pub example : Pmf.listed file ≡ ascii "fit 1 1 1 yes" ++ Text.newline ++ ascii "ID 4024000000000000 0000000000000000" ++ Text.newline ++ ascii "sky 0000000000000000 0000000000000000" ++ Text.newline
-unfolding nameOf wellFormed digitsFrom unsigned components parseHarmonic readHarmonic byKnown readTerm jacobianOf pointOf isFinite abs neg add sub mul div lt le eq ofBits ofInt Root.sqrt table filled each sumTo sumBut dot zipWith Step.fitOutcome asked limits counts scratchNeeded room finiteInput finiteOptions codesKnown firstOf Step.fitted Out.resultOf Step.step Step.toFit Step.change Step.newCoefficients Step.freeResiduals Step.residuals Out.sigmaOf Out.diagnosticOf Out.diagnosticNumbers stars Design.rows column skyColumn differences skyDifferences freeBefore ofFree subtractAll product freeProduct stacked sumSqSky skyRms popnSd variance sigmaAt deviation clamped studentizedRow diagnostic solved answered decomposed norms norm scaleOf scaledColumn unitColumn columns diagonal diagonals extended inverses inverse rankTo projected xScaled solution scaledVariance covariance leverageOf threshold order best sweeps sweep row pair turn zetaOf tanOf cosOf toBits Text.digit Text.lastDigits Text.decimal Text.hexadecimal Text.bitsOf Text.texts Listing.countsLine Listing.floats Listing.termLine Listing.termLines Listing.skyLine Listing.fitText Listing.refusalText File.double File.inputOf File.optionsOf Pmf.fileNo Pmf.room Pmf.fitOf Pmf.outcomeOf Pmf.listed Out.finished
+unfolding nameOf wellFormed digitsFrom unsigned components parseHarmonic readHarmonic byKnown readTerm jacobianOf pointOf isFinite abs neg add sub mul div lt le
+    eq ofBits ofInt Root.sqrt table filled each sumTo sumBut dot zipWith asked limits counts scratchNeeded room finiteInput finiteOptions codesKnown firstOf
+    Step.step Step.toFit Step.change Step.newCoefficients Step.freeResiduals Out.sigmaOf Out.diagnosticOf Out.diagnosticNumbers Design.rows column skyColumn
+    differences skyDifferences subtractAll product stacked sumSqSky variance deviation clamped studentizedRow diagnostic solved answered decomposed norms norm
+    scaleOf scaledColumn unitColumn columns diagonal diagonals extended inverses inverse rankTo projected xScaled solution scaledVariance covariance leverageOf
+    threshold order best sweeps sweep row pair turn zetaOf tanOf cosOf toBits Text.digit Text.lastDigits Text.decimal Text.hexadecimal Text.bitsOf concatTo
+    Listing.countsLine Listing.floats Listing.termLine Listing.termLines Listing.skyLine Listing.fitText Listing.refusalText File.double File.inputOf
+    File.optionsOf Pmf.fileNo Pmf.room Pmf.fitOf Pmf.outcomeOf Pmf.listed Out.finished kept collectIndices skyRows scattered finiteSettings skyFrom
+    Step.fittedRun Step.actualResiduals
 example = refl

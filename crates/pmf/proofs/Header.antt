@@ -9,7 +9,7 @@ use lib.Dec.{eqb}
 use lib.ListN.{length, getD}
 use Rattle.harmonic.specs.Table.{ascii}
 use Rattle.terms.specs.Names.{same}
-use Rattle.pmf.specs.File.{markOf, versionOf, termsOf, modeOf, starsOf, fileSize}
+use Rattle.pmf.specs.File.{fileTerms, fileStars, markOf, versionOf, termCount, modeOf, starCount, fileSize}
 use Rattle.pmf.specs.Pmf.{modeKnown, fileNo}
 
 last : (b : Bool) → (b && true) ≡ b
@@ -47,16 +47,16 @@ module _ (s : List ℕ) where
   unfolding fileNo
   no-mode h e v k = rw (le-leb 9 (length s) h, e, eq-eqb (versionOf s) 1 v, k)
 
-  pub no-terms : Header s → 16 < termsOf s → 1 ≡ fileNo s
+  pub no-terms : Header s → fileTerms < termCount s → 1 ≡ fileNo s
   unfolding fileNo
-  no-terms h m = rw (le-leb 9 (length s) (h .long), h .mark, eq-eqb (versionOf s) 1 (h .version), h .mode, lt-leb (termsOf s) 16 m)
+  no-terms h m = rw (le-leb 9 (length s) (h .long), h .mark, eq-eqb (versionOf s) 1 (h .version), h .mode, lt-leb (termCount s) fileTerms m)
 
-  pub no-stars : Header s → termsOf s ≤ 16 → 100 < starsOf s → 1 ≡ fileNo s
+  pub no-stars : Header s → termCount s ≤ fileTerms → fileStars < starCount s → 1 ≡ fileNo s
   unfolding fileNo
   no-stars h m n =
-      rw (le-leb 9 (length s) (h .long), h .mark, eq-eqb (versionOf s) 1 (h .version), h .mode, le-leb (termsOf s) 16 m, lt-leb (starsOf s) 100 n)
+      rw (le-leb 9 (length s) (h .long), h .mark, eq-eqb (versionOf s) 1 (h .version), h .mode, le-leb (termCount s) fileTerms m, lt-leb (starCount s) fileStars n)
 
-  pub no-size : Header s → termsOf s ≤ 16 → starsOf s ≤ 100 → (length s ≡ fileSize (termsOf s) (starsOf s) → ⊥) → 15 ≡ fileNo s
+  pub no-size : Header s → termCount s ≤ fileTerms → starCount s ≤ fileStars → (length s ≡ fileSize (termCount s) (starCount s) → ⊥) → 15 ≡ fileNo s
   unfolding fileNo
   no-size h m n z =
       rw (
@@ -64,12 +64,12 @@ module _ (s : List ℕ) where
         h .mark,
         eq-eqb (versionOf s) 1 (h .version),
         h .mode,
-        le-leb (termsOf s) 16 m,
-        le-leb (starsOf s) 100 n,
-        ne-eqb (length s) (fileSize (termsOf s) (starsOf s)) z,
+        le-leb (termCount s) fileTerms m,
+        le-leb (starCount s) fileStars n,
+        ne-eqb (length s) (fileSize (termCount s) (starCount s)) z,
       )
 
-  pub none : Header s → termsOf s ≤ 16 → starsOf s ≤ 100 → length s ≡ fileSize (termsOf s) (starsOf s) → 0 ≡ fileNo s
+  pub none : Header s → termCount s ≤ fileTerms → starCount s ≤ fileStars → length s ≡ fileSize (termCount s) (starCount s) → 0 ≡ fileNo s
   unfolding fileNo
   none h m n z =
       rw (
@@ -77,7 +77,7 @@ module _ (s : List ℕ) where
         h .mark,
         eq-eqb (versionOf s) 1 (h .version),
         h .mode,
-        le-leb (termsOf s) 16 m,
-        le-leb (starsOf s) 100 n,
-        eq-eqb (length s) (fileSize (termsOf s) (starsOf s)) z,
+        le-leb (termCount s) fileTerms m,
+        le-leb (starCount s) fileStars n,
+        eq-eqb (length s) (fileSize (termCount s) (starCount s)) z,
       )

@@ -1,27 +1,33 @@
 -- What is read of a file, and the text that is written of it. Assumes nothing.
 use Prim.Native.Nat.{ℕ, _+_, _*_}
 use native.Mathlib.Omega.{arith}
-use mathlib.Core.Path.{_≡_, sym, ap, _∙_}
+use mathlib.Core.Path.{_≡_, sym, ap, subst, _∙_}
 use mathlib.Core.List.{List, _++_}
 use lib.ListN.{length, drop, replicate, length-replicate}
 use lib.Seq.{sets-eq}
 use lib.Ieee.{Float}
+use Rattle.limits.specs.Limits.{slotBytes}
 use Rattle.float.specs.Float.{#0}
 use Rattle.sequence.specs.Sequence.{part}
 use Rattle.listing.specs.Text.{Wrote}
-use Rattle.listing.specs.Listing.{refusalText}
-use Rattle.solver.specs.declared.Fit.{Fit}
+use Rattle.listing.specs.Listing.{fitText, refusalText}
+use Rattle.solver.specs.declared.Fit.the-variants.{Done}
+use Rattle.solver.specs.declared.FitResult.{FitResult}
 use Rattle.solver.specs.declared.IterOptions.{IterOptions}
-use Rattle.solver.specs.Call.{FitInputs, inputs, buffers, sizes, sizesOf}
-use Rattle.validate.specs.Questions.{asked}
+use Rattle.solver.specs.declared.Settings.{Settings}
+use Rattle.solver.specs.declared.Sizes.{Sizes}
+use Rattle.solver.specs.Call.{FitInputs, Buffers, inputs, buffers, sizesOf}
+use Rattle.validate.specs.Questions.{asked, Ready}
 use Rattle.validate.specs.declared.Asked.{Asked}
 use Rattle.validate.specs.declared.Asked.the-variants.{Pass, No}
+use Rattle.validate.proofs.Passed.{ready}
 use Rattle.outcome.specs.Outcome.{outcome}
-use Rattle.pmf.specs.File.{termsOf, starsOf, settingAt, namesAt, flagsAt, dhAt, ddAt, double, coefficientsOf, differencesOf, piersOf, sheetsOf, inputOf, Decoded}
-use Rattle.pmf.specs.Pmf.{room, fitOf, outcomeOf, answerText, outcomeText, written}
+use Rattle.pmf.specs.File.{fileTerms, termCount, starCount, namesPlace, flagsPlace, dhPlace, ddPlace}
+use Rattle.pmf.specs.File.{coefficientsOf, differencesOf, piersOf, sheetsOf, settingsIn, inputOf, Decoded}
+use Rattle.pmf.specs.Pmf.{room, fitOf, outcomeOf, outcomeText, written}
 
-pub decoded : {a b c e : List Float} {d : List ℕ} (s : List ℕ) (m n : ℕ) → m ≡ termsOf s → n ≡ starsOf s
-    → a ≡ coefficientsOf s m → b ≡ differencesOf s n (dhAt m) → c ≡ differencesOf s n (ddAt m) → d ≡ piersOf s m n → e ≡ sheetsOf s m n
+pub decoded : {a b c e : List Float} {d : List ℕ} (s : List ℕ) (m n : ℕ) → m ≡ termCount s → n ≡ starCount s
+    → a ≡ coefficientsOf s m → b ≡ differencesOf s n (dhPlace m) → c ≡ differencesOf s n (ddPlace m) → d ≡ piersOf s m n → e ≡ sheetsOf s m n
     → Decoded s a b c d e
 decoded s m n p q ea eb ec ed ee = record {
   coefficients-are = rw p at ea;
@@ -31,37 +37,48 @@ decoded s m n p q ea eb ec ed ee = record {
   sheets-are = rw (p, q) at ee;
 }
 
-pub input-is : {coefficients dh dd sheets : List Float} {names fixed pier : List ℕ} {a b c : Float} (s : List ℕ)
-    → names ≡ part s namesAt (16 * termsOf s) → fixed ≡ part s (flagsAt (termsOf s)) (termsOf s) → Decoded s coefficients dh dd pier sheets
-    → a ≡ double s (settingAt 0) → b ≡ double s (settingAt 1) → c ≡ double s (settingAt 2)
-    → inputs names fixed coefficients dh dd pier sheets a b c ≡ inputOf s
+pub input-is : {coefficients dh dd sheets : List Float} {names fixed pier : List ℕ} {c : Settings} (s : List ℕ)
+    → names ≡ part s namesPlace (slotBytes * termCount s) → fixed ≡ part s (flagsPlace (termCount s)) (termCount s) → Decoded s coefficients dh dd pier sheets
+    → c ≡ settingsIn s → inputs names fixed coefficients dh dd pier sheets c ≡ inputOf s
 unfolding inputOf
-input-is s en ef d ea eb ec = rw (en, ef, d .coefficients-are, d .dh-are, d .dd-are, d .pier-are, d .sheets-are, ea, eb, ec)
+input-is s en ef d ec = rw (en, ef, d .coefficients-are, d .dh-are, d .dd-are, d .pier-are, d .sheets-are, ec)
 
 -- ---- the fit's buffers
 
-pub room-sizes : sizesOf room ≡ sizes 16 16 16 300 8096
-unfolding room
-room-sizes = rw (length-replicate 16 #0, length-replicate 300 #0, length-replicate 8096 #0)
+abbrev roomSizes : Sizes
+roomSizes = record { coefficients = fileTerms; change = fileTerms; sigma = fileTerms; diagnostics = 300; scratch = 8096 }
 
-module _ (mode : ℕ) (l : FitInputs) (o : IterOptions) (r : Asked) (e : r ≡ asked l o (sizes 16 16 16 300 8096)) where
+room-sizes : sizesOf room ≡ roomSizes
+unfolding room
+room-sizes = rw (length-replicate fileTerms #0, length-replicate 300 #0, length-replicate 8096 #0)
+
+module _ (mode : ℕ) (l : FitInputs) (o : IterOptions) (r : Asked) (e : r ≡ asked l o roomSizes) where
   pub asked-no : (k : ℕ) → r ≡ No k → outcomeText l (outcomeOf mode l o) ≡ refusalText k
   unfolding outcomeOf
   asked-no k q = rw (room-sizes, ← e, q)
 
-  pub asked-pass : (free : ℕ) → r ≡ Pass free → outcomeText l (outcomeOf mode l o) ≡ outcomeText l (fitOf mode l o room)
+  pub asked-pass : r ≡ Pass → outcomeText l (outcomeOf mode l o) ≡ outcomeText l (fitOf mode l o room)
   unfolding outcomeOf
-  asked-pass free q = rw (room-sizes, ← e, q)
+  asked-pass q = rw (room-sizes, ← e, q)
 
--- the text of a fit made in buffers that hold zeros
-pub fit-text : (mode : ℕ) (l : FitInputs) (o : IterOptions) {a b c d w a′ b′ c′ d′ w′ : List Float} (f f′ : Fit)
-    → a ≡ replicate 16 #0 → b ≡ replicate 16 #0 → c ≡ replicate 16 #0 → d ≡ replicate 300 #0 → w ≡ replicate 8096 #0
-    → outcome f (buffers a′ b′ c′ d′ w′) ≡ fitOf mode l o (buffers a b c d w) → f ≡ f′
-    → outcomeText l (fitOf mode l o room) ≡ answerText l (buffers a′ b′ c′ d′ w′) f′
-unfolding room
-fit-text mode l o {a} {b} {c} {d} {w} {a′} {b′} {c′} {d′} {w′} f f′ ea eb ec ed ew e q =
-    let z : fitOf mode l o (buffers a b c d w) ≡ fitOf mode l o room = rw (ea, eb, ec, ed, ew) in
-    ap (outcomeText l) (sym (e ∙ z)) ∙ ap (answerText l (buffers a′ b′ c′ d′ w′)) q
+  pub asked-ready : r ≡ Pass → Ready l (sizesOf room)
+  asked-ready q = rw room-sizes (ready l o roomSizes r q e)
+
+module _ {a b c d w : List Float} (ea : a ≡ replicate fileTerms #0) (eb : b ≡ replicate fileTerms #0) (ec : c ≡ replicate fileTerms #0)
+    (ed : d ≡ replicate 300 #0) (ew : w ≡ replicate 8096 #0) where
+  -- buffers that hold zeros
+  room-is : buffers a b c d w ≡ room
+  unfolding room
+  room-is = rw (ea, eb, ec, ed, ew)
+
+  pub room-ready : (l : FitInputs) → Ready l (sizesOf room) → Ready l (sizesOf (buffers a b c d w))
+  room-ready l h = subst (λ (x : Buffers). Ready l (sizesOf x)) (sym room-is) h
+
+  -- the text of a fit made in them
+  pub fit-text : (mode : ℕ) (l : FitInputs) (o : IterOptions) {a′ b′ c′ d′ w′ : List Float} (r : FitResult)
+      → outcome (Done r) (buffers a′ b′ c′ d′ w′) ≡ fitOf mode l o (buffers a b c d w)
+      → outcomeText l (fitOf mode l o room) ≡ fitText (l .names) (length (l .coefficients)) a′ c′ r
+  fit-text mode l o r e = ap (outcomeText l) (ap (fitOf mode l o) (sym room-is) ∙ sym e)
 
 -- ---- the text in a buffer
 

@@ -13,7 +13,7 @@ use Rattle.harmonic.specs.Table.{ascii}
 use Rattle.terms.specs.Names.{same}
 use Rattle.terms.specs.Questions.{ask, firstNo}
 use Rattle.listing.specs.Listing.{refusalText}
-use Rattle.pmf.specs.File.{markOf, versionOf, termsOf, modeOf, starsOf, fileSize}
+use Rattle.pmf.specs.File.{fileTerms, fileStars, markOf, versionOf, termCount, modeOf, starCount, fileSize, longestFile}
 use Rattle.pmf.specs.Pmf.{modeKnown, fileNo, listed}
 
 -- the answers to the questions behind the first: mark, version, mode, limits and length
@@ -35,29 +35,29 @@ never-passed true true true true = refl
 module _ (s : List ℕ) where
   -- the answers of a header
   abbrev limitsOf : Bool
-  limitsOf = leb (termsOf s) 16 && leb (starsOf s) 100
+  limitsOf = leb (termCount s) fileTerms && leb (starCount s) fileStars
 
   abbrev headerNo : ℕ
   headerNo = firstOf (same (markOf s) (ascii "PMF")) (eqb (versionOf s) 1) (modeKnown (modeOf s)) limitsOf false
 
-  no-file : 31775 < length s → T limitsOf → length s ≡ fileSize (termsOf s) (starsOf s) → ⊥
+  no-file : longestFile < length s → T limitsOf → length s ≡ fileSize (termCount s) (starCount s) → ⊥
   no-file h t e =
-      let m = leb→le (termsOf s) 16 (and-l (leb (termsOf s) 16) (leb (starsOf s) 100) t) in
-      let n = leb→le (starsOf s) 100 (and-r (leb (termsOf s) 16) (leb (starsOf s) 100) t) in
+      let m = leb→le (termCount s) fileTerms (and-l (leb (termCount s) fileTerms) (leb (starCount s) fileStars) t) in
+      let n = leb→le (starCount s) fileStars (and-r (leb (termCount s) fileTerms) (leb (starCount s) fileStars) t) in
       omega arith
 
-  long-no : 31775 < length s → fileNo s ≡ headerNo
+  long-no : longestFile < length s → fileNo s ≡ headerNo
   unfolding fileNo
   long-no h =
       rw (le-leb 9 (length s) (omega arith))
-      (too-long (same (markOf s) (ascii "PMF")) (eqb (versionOf s) 1) (modeKnown (modeOf s)) limitsOf (eqb (length s) (fileSize (termsOf s) (starsOf s)))
-      (λ t. ne-eqb (length s) (fileSize (termsOf s) (starsOf s)) (no-file h t)))
+      (too-long (same (markOf s) (ascii "PMF")) (eqb (versionOf s) 1) (modeKnown (modeOf s)) limitsOf (eqb (length s) (fileSize (termCount s) (starCount s)))
+      (λ t. ne-eqb (length s) (fileSize (termCount s) (starCount s)) (no-file h t)))
 
-  long-listed : 31775 < length s → listed s ≡ refusalText headerNo
+  long-listed : longestFile < length s → listed s ≡ refusalText headerNo
   unfolding listed
   long-listed h = rw (long-no h, never-passed (same (markOf s) (ascii "PMF")) (eqb (versionOf s) 1) (modeKnown (modeOf s)) limitsOf)
 
-cut-length : (s : List ℕ) → 31776 ≤ length s → 31775 < length (take 31776 s)
+cut-length : (s : List ℕ) → 31776 ≤ length s → longestFile < length (take 31776 s)
 cut-length s h = rw (length-take-le 31776 s h) (omega arith)
 
 header-kept : (s : List ℕ) → 31776 ≤ length s → headerNo (take 31776 s) ≡ headerNo s

@@ -17,10 +17,10 @@ use Rattle.validate.specs.Questions.{asked}
 use Rattle.validate.specs.declared.Asked.{Asked}
 use Rattle.validate.specs.declared.Asked.the-variants.{Pass, No}
 use Rattle.outcome.specs.Outcome.{Outcome, outcome}
-use Rattle.single_step.specs.SingleStep.{fitOutcome}
-use Rattle.iterated.specs.Iterated.{iteratedOutcome}
+use Rattle.single_step.specs.SingleStep.{fitted as singleStep}
+use Rattle.iterated.specs.Iterated.{fitted as iterated}
 use Rattle.listing.specs.Listing.{fitText, refusalText, listingRoom}
-use Rattle.pmf.specs.File.{markOf, versionOf, termsOf, modeOf, starsOf, fileSize, inputOf, optionsOf}
+use Rattle.pmf.specs.File.{fileTerms, fileStars, markOf, versionOf, termCount, modeOf, starCount, fileSize, inputOf, optionsOf}
 
 -- ---- is the file well formed?
 
@@ -30,36 +30,36 @@ modeKnown k = eqb k 0 || eqb k 1 || eqb k 3
 -- the number of the first no, or 0
 unfoldable pub fileNo : List ℕ → ℕ
 fileNo s =
-    let m = termsOf s in
-    let n = starsOf s in
+    let m = termCount s in
+    let n = starCount s in
     firstNo (λ k. k) 0
     (ask (leb 9 (length s)) 15
     ∷ ask (same (markOf s) (ascii "PMF")) 15
     ∷ ask (eqb (versionOf s) 1) 15
     ∷ ask (modeKnown (modeOf s)) 15
-    ∷ ask (leb m 16 && leb n 100) 1
+    ∷ ask (leb m fileTerms && leb n fileStars) 1
     ∷ ask (eqb (length s) (fileSize m n)) 15
     ∷ [])
 
 -- what is known of a file where there is none
 pub record WellFormed (s : List ℕ) : Type 0 where
-  pub terms : termsOf s ≤ 16
-  pub stars : starsOf s ≤ 100
-  pub size : length s ≡ fileSize (termsOf s) (starsOf s)
+  pub terms : termCount s ≤ fileTerms
+  pub stars : starCount s ≤ fileStars
+  pub size : length s ≡ fileSize (termCount s) (starCount s)
 
 -- ---- the fit
 
 -- the buffers of a fit of 16 terms to 100 stars
 unfoldable pub room : Buffers
-room = buffers (replicate 16 #0) (replicate 16 #0) (replicate 16 #0) (replicate 300 #0) (replicate 8096 #0)
+room = let terms = replicate fileTerms #0 in buffers terms terms terms (replicate 300 #0) (replicate 8096 #0)
 
 -- the fit of a mode: 0 is the single step, 1 and 3 are the iterated fit
 unfoldable pub fitOf : ℕ → FitInputs → IterOptions → Buffers → Outcome
-fitOf mode l o b = cond (eqb mode 0) (fitOutcome l b) (iteratedOutcome l o b)
+fitOf mode l o b = cond (eqb mode 0) (singleStep l b) (iterated l o b)
 
 -- the questions are put to every field in every mode, then the fit is made
 abbrev pub decided : Asked → ℕ → FitInputs → IterOptions → Outcome
-decided (Pass free) mode l o = fitOf mode l o room
+decided Pass mode l o = fitOf mode l o room
 decided (No k) mode l o = outcome (Refused k) room
 
 unfoldable pub outcomeOf : ℕ → FitInputs → IterOptions → Outcome

@@ -8,17 +8,31 @@ ghost use Rattle.harmonic.specs.Table.{ascii};
 ghost use Rattle.terms.specs.Names.{same};
 ghost use Rattle.listing.specs.Text.{Wrote};
 ghost use Rattle.listing.specs.Listing.{listingRoom};
-ghost use Rattle.solver.specs.Call.{inputs, buffers};
+ghost use Rattle.solver.specs.Call.{FitInputs, inputs, buffers, sizesOf};
+ghost use Rattle.validate.specs.Questions.{Ready};
 ghost use Rattle.outcome.specs.Outcome.{outcome};
-ghost use Rattle.pmf.specs.File.{markOf, termsOf, modeOf, inputOf, optionsOf, Decoded};
+ghost use Rattle.pmf.specs.File.{fileTerms, markOf, termCount, modeOf, inputOf, optionsOf, Decoded};
 ghost use Rattle.pmf.specs.Pmf.{modeKnown, fileNo, WellFormed, fitOf, room, outcomeOf, outcomeText, listedIn};
 
 mod file;
 
+use crate::file::FILE_STARS;
+use crate::file::FILE_TERMS;
+use crate::file::NAMES;
+use crate::file::STAR;
+use crate::file::TERM;
+use limits::SHEET;
+use limits::SLOT;
 use listing::LISTING;
 use solver::Fit;
+use solver::FitResult;
 use solver::IterOptions;
+use solver::Settings;
+use solver::Sizes;
 use validate::Asked;
+
+// One byte more than the longest file has: what lies behind it changes no listing.
+pub const FILE_ROOM: usize = 31776;
 
 // Whether a file begins with the mark.
 fn marked(s: &[u8]) -> bool
@@ -62,27 +76,21 @@ fn file_refusal(s: &[u8]) -> u8
     if !mode_known(s[6]) {
         return 15;
     }
-    let m = wide(s[5]);
+    let m = little_endian::size(s[5]);
     let n = little_endian::u16_at(s, 7) as usize;
-    if m > 16 {
+    if m > FILE_TERMS {
         return 1;
     }
-    if n > 100 {
+    if n > FILE_STARS {
         return 1;
     }
-    if s.len() != 75 + 25 * m + 313 * n {
+    if s.len() != NAMES + TERM * m + STAR * n {
         return 15;
     }
     0
 }
 
-fn wide(b: u8) -> usize
-    ensures { λ r. ⌜ (r ≡ b) × (r < 256) ⌝ }
-{
-    b as usize
-}
-
-// The fit of a mode: 0 is the single step, 1 and 3 are the iterated fit.
+// The fit of a mode, once the questions are passed: 0 is the single step, 1 and 3 are the iterated fit.
 fn fit(
     mode: u8,
     names: &[u8],
@@ -92,21 +100,22 @@ fn fit(
     dd: &[f64],
     pier: &[u8],
     sheets: &[f64],
-    sin_lat: f64,
-    cos_lat: f64,
-    fit_tol: f64,
+    settings: Settings,
     options: IterOptions,
     out: &mut [f64],
     change: &mut [f64],
     sigma: &mut [f64],
     diagnostics: &mut [f64],
     scratch: &mut [f64],
-) -> Fit
-    ensures { λ r. ⌜ outcome r (buffers (now (out .exit)) (now (change .exit)) (now (sigma .exit)) (now (diagnostics .exit)) (now (scratch .exit)))
-        ≡ fitOf mode (inputs (now (names .entry)) (now (fixed .entry)) (now (coefficients .entry)) (now (dh .entry)) (now (dd .entry)) (now (pier .entry)) (now (sheets .entry)) «sin_lat» «cos_lat» «fit_tol») options (buffers (now (out .entry)) (now (change .entry)) (now (sigma .entry)) (now (diagnostics .entry)) (now (scratch .entry))) ⌝ }
+) -> FitResult
+    ghost { FitInputs }
+    requires { λ l. ⌜ inputs (now names) (now fixed) (now coefficients) (now dh) (now dd) (now pier) (now sheets) settings ≡ l ⌝ }
+    requires { λ l. ⌜ Ready l (sizesOf (buffers (now out) (now change) (now sigma) (now diagnostics) (now scratch))) ⌝ }
+    ensures { λ l r. ⌜ outcome (Fit.Done r) (buffers (now (out .exit)) (now (change .exit)) (now (sigma .exit)) (now (diagnostics .exit)) (now (scratch .exit)))
+        ≡ fitOf mode l options (buffers (now (out .entry)) (now (change .entry)) (now (sigma .entry)) (now (diagnostics .entry)) (now (scratch .entry))) ⌝ }
 {
     if mode == 0 {
-        return single_step::fit_model(
+        return single_step::fit(
             names,
             fixed,
             coefficients,
@@ -114,9 +123,7 @@ fn fit(
             dd,
             pier,
             sheets,
-            sin_lat,
-            cos_lat,
-            fit_tol,
+            settings,
             out,
             change,
             sigma,
@@ -124,7 +131,7 @@ fn fit(
             scratch,
         );
     }
-    iterated::fit_model_iterated(
+    iterated::fit(
         names,
         fixed,
         coefficients,
@@ -132,9 +139,7 @@ fn fit(
         dd,
         pier,
         sheets,
-        sin_lat,
-        cos_lat,
-        fit_tol,
+        settings,
         options,
         out,
         change,
@@ -144,10 +149,10 @@ fn fit(
     )
 }
 
-fn term_room() -> [f64; 16]
-    ensures { λ r. ⌜ r ≡ replicate 16 #0 ⌝ }
+fn term_room() -> [f64; FILE_TERMS]
+    ensures { λ r. ⌜ r ≡ replicate fileTerms #0 ⌝ }
 {
-    [0.0; 16]
+    [0.0; FILE_TERMS]
 }
 
 fn diagnostics_room() -> [f64; 300]
@@ -172,21 +177,21 @@ fn list_fit(
     dd: &[f64],
     pier: &[u8],
     sheets: &[f64],
-    sin_lat: f64,
-    cos_lat: f64,
-    fit_tol: f64,
+    settings: Settings,
     options: IterOptions,
     text: &mut [u8],
 ) -> usize
-    requires { ⌜ (listingRoom ≤ length (now text)) × (length (now coefficients) ≤ 16) × (length (now names) ≡ 16 * length (now coefficients)) ⌝ }
-    ensures { λ r. ⌜ Wrote (outcomeText (inputs (now (names .entry)) (now (fixed .entry)) (now (coefficients .entry)) (now (dh .entry)) (now (dd .entry)) (now (pier .entry)) (now (sheets .entry)) «sin_lat» «cos_lat» «fit_tol») (fitOf mode (inputs (now (names .entry)) (now (fixed .entry)) (now (coefficients .entry)) (now (dh .entry)) (now (dd .entry)) (now (pier .entry)) (now (sheets .entry)) «sin_lat» «cos_lat» «fit_tol») options room)) 0 (now (text .entry)) (now (text .exit)) r ⌝ }
+    ghost { FitInputs }
+    requires { λ l. ⌜ inputs (now names) (now fixed) (now coefficients) (now dh) (now dd) (now pier) (now sheets) settings ≡ l ⌝ }
+    requires { λ l. ⌜ (listingRoom ≤ length (now text)) × (length (now coefficients) ≤ fileTerms) × Ready l (sizesOf room) ⌝ }
+    ensures { λ l r. ⌜ Wrote (outcomeText l (fitOf mode l options room)) 0 (now (text .entry)) (now (text .exit)) r ⌝ }
 {
     let mut out = term_room();
     let mut change = term_room();
     let mut sigma = term_room();
     let mut diagnostics = diagnostics_room();
     let mut scratch = scratch_room();
-    let answer = fit(
+    let r = fit(
         mode,
         names,
         fixed,
@@ -195,9 +200,7 @@ fn list_fit(
         dd,
         pier,
         sheets,
-        sin_lat,
-        cos_lat,
-        fit_tol,
+        settings,
         options,
         &mut out,
         &mut change,
@@ -205,10 +208,7 @@ fn list_fit(
         &mut diagnostics,
         &mut scratch,
     );
-    match answer {
-        Fit::Done(r) => listing::put_fit(text, names, coefficients.len(), &out, &sigma, r),
-        Fit::Refused(k) => listing::put_refusal(text, k),
-    }
+    listing::put_fit(text, names, coefficients.len(), &out, &sigma, r)
 }
 
 // The listing of what a file holds: the questions, put to every field in every mode, and the fit.
@@ -221,15 +221,22 @@ fn list_input(
     dd: &[f64],
     pier: &[u8],
     sheets: &[f64],
-    sin_lat: f64,
-    cos_lat: f64,
-    fit_tol: f64,
+    settings: Settings,
     options: IterOptions,
     text: &mut [u8],
 ) -> usize
-    requires { ⌜ (listingRoom ≤ length (now text)) × (length (now coefficients) ≤ 16) × (length (now names) ≡ 16 * length (now coefficients)) ⌝ }
-    ensures { λ r. ⌜ Wrote (outcomeText (inputs (now (names .entry)) (now (fixed .entry)) (now (coefficients .entry)) (now (dh .entry)) (now (dd .entry)) (now (pier .entry)) (now (sheets .entry)) «sin_lat» «cos_lat» «fit_tol») (outcomeOf mode (inputs (now (names .entry)) (now (fixed .entry)) (now (coefficients .entry)) (now (dh .entry)) (now (dd .entry)) (now (pier .entry)) (now (sheets .entry)) «sin_lat» «cos_lat» «fit_tol») options)) 0 (now (text .entry)) (now (text .exit)) r ⌝ }
+    ghost { FitInputs }
+    requires { λ l. ⌜ inputs (now names) (now fixed) (now coefficients) (now dh) (now dd) (now pier) (now sheets) settings ≡ l ⌝ }
+    requires { λ l. ⌜ (listingRoom ≤ length (now text)) × (length (now coefficients) ≤ fileTerms) ⌝ }
+    ensures { λ l r. ⌜ Wrote (outcomeText l (outcomeOf mode l options)) 0 (now (text .entry)) (now (text .exit)) r ⌝ }
 {
+    let room = Sizes {
+        coefficients: FILE_TERMS,
+        change: FILE_TERMS,
+        sigma: FILE_TERMS,
+        diagnostics: 300,
+        scratch: 8096,
+    };
     let asked = validate::questions(
         names,
         fixed,
@@ -238,19 +245,13 @@ fn list_input(
         dd,
         pier,
         sheets,
-        sin_lat,
-        cos_lat,
-        fit_tol,
+        settings,
         options,
-        16,
-        16,
-        16,
-        300,
-        8096,
+        room,
     );
     match asked {
         Asked::No(k) => listing::put_refusal(text, k),
-        Asked::Pass(_free) => list_fit(
+        Asked::Pass => list_fit(
             mode,
             names,
             fixed,
@@ -259,9 +260,7 @@ fn list_input(
             dd,
             pier,
             sheets,
-            sin_lat,
-            cos_lat,
-            fit_tol,
+            settings,
             options,
             text,
         ),
@@ -279,26 +278,24 @@ fn list_fields(
     sheets: &[f64],
     text: &mut [u8],
 ) -> usize
-    requires { ⌜ (listingRoom ≤ length (now text)) × WellFormed (now s) × (m ≡ termsOf (now s)) × Decoded (now s) (now coefficients) (now dh) (now dd) (now pier) (now sheets) ⌝ }
-    ensures { λ r. ⌜ Wrote (outcomeText (inputOf (now (s .entry))) (outcomeOf (modeOf (now (s .entry))) (inputOf (now (s .entry))) (optionsOf (now (s .entry))))) 0 (now (text .entry)) (now (text .exit)) r ⌝ }
+    requires { ⌜ (listingRoom ≤ length (now text)) × WellFormed (now s) × (m ≡ termCount (now s)) × Decoded (now s) (now coefficients) (now dh) (now dd)
+        (now pier) (now sheets) ⌝ }
+    ensures { λ r. ⌜ Wrote (outcomeText (inputOf (now (s .entry)))
+        (outcomeOf (modeOf (now (s .entry))) (inputOf (now (s .entry))) (optionsOf (now (s .entry))))) 0 (now (text .entry)) (now (text .exit)) r ⌝ }
 {
     let options = file::options(s);
-    let sin_lat = file::double_at(s, 9);
-    let cos_lat = file::double_at(s, 17);
-    let fit_tol = file::double_at(s, 25);
-    let flags = 75 + 16 * m;
+    let settings = file::settings(s);
+    let flags = NAMES + SLOT * m;
     list_input(
         s[6],
-        &s[75..flags],
+        &s[NAMES..flags],
         &s[flags..flags + m],
         coefficients,
         dh,
         dd,
         pier,
         sheets,
-        sin_lat,
-        cos_lat,
-        fit_tol,
+        settings,
         options,
         text,
     )
@@ -307,16 +304,17 @@ fn list_fields(
 // The listing of a well-formed file.
 fn list_file(s: &[u8], text: &mut [u8]) -> usize
     requires { ⌜ (listingRoom ≤ length (now text)) × WellFormed (now s) ⌝ }
-    ensures { λ r. ⌜ Wrote (outcomeText (inputOf (now (s .entry))) (outcomeOf (modeOf (now (s .entry))) (inputOf (now (s .entry))) (optionsOf (now (s .entry))))) 0 (now (text .entry)) (now (text .exit)) r ⌝ }
+    ensures { λ r. ⌜ Wrote (outcomeText (inputOf (now (s .entry)))
+        (outcomeOf (modeOf (now (s .entry))) (inputOf (now (s .entry))) (optionsOf (now (s .entry))))) 0 (now (text .entry)) (now (text .exit)) r ⌝ }
 {
-    let m = wide(s[5]);
+    let m = little_endian::size(s[5]);
     let n = little_endian::u16_at(s, 7) as usize;
     let coefficients = file::coefficients(s, m);
-    let dh = file::differences(s, 76 + 25 * m, n);
-    let dd = file::differences(s, 84 + 25 * m, n);
+    let dh = file::differences(s, 1 + NAMES + TERM * m, n);
+    let dd = file::differences(s, 9 + NAMES + TERM * m, n);
     let pier = file::piers(s, m, n);
     let sheets = file::sheets(s, m, n);
-    let numbers = 37 * n;
+    let numbers = SHEET * n;
     list_fields(
         s,
         m,

@@ -1,6 +1,6 @@
 // What the programs that replay the oracle's answers share: records from standard input, and lines of counts.
 
-ghost use Prim.Native.Nat.{_<_, _≤_};
+ghost use Prim.Native.Nat.{_≤_};
 
 // Stands behind the last record. No record begins with it.
 const MARK: u8 = 255;
@@ -127,12 +127,6 @@ pub fn hold_all(held: Held, s: &[f64]) -> Held {
         held = hold(held, s[i]);
     }
     held
-}
-
-pub fn wide(b: u8) -> usize
-    ensures { λ r. ⌜ r < 256 ⌝ }
-{
-    b as usize
 }
 
 // One more: a count of records never wraps.

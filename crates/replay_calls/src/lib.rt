@@ -11,6 +11,7 @@ use replay::read_doubles;
 use solver::Fit;
 use solver::FitResult;
 use solver::IterOptions;
+use solver::Settings;
 
 struct Tally {
     fits: u64,
@@ -42,9 +43,7 @@ struct Sizes {
 // Which fit is called, and what is lent to it beside the slices.
 struct Scalars {
     mode: u8,
-    sin_lat: f64,
-    cos_lat: f64,
-    fit_tol: f64,
+    settings: Settings,
     options: IterOptions,
 }
 
@@ -55,7 +54,8 @@ const ROBUST: u8 = 3;
 
 // The numbers of a call's head, after its mode.
 fn read_sizes() -> Sizes
-    ensures { λ r. ⌜ (r .m ≤ 40) × (r .n ≤ 1100) × (r .names ≤ 700) × (r .fixed ≤ 64) × (r .dd ≤ 1200) × (r .pier ≤ 1200) × (r .sheets ≤ 41000) × (r .coefficients ≤ 64) × (r .change ≤ 64) × (r .sigma ≤ 64) × (r .diagnostics ≤ 3400) × (r .scratch ≤ 150000) ⌝ }
+    ensures { λ r. ⌜ (r .m ≤ 40) × (r .n ≤ 1100) × (r .names ≤ 700) × (r .fixed ≤ 64) × (r .dd ≤ 1200) × (r .pier ≤ 1200) × (r .sheets ≤ 41000)
+        × (r .coefficients ≤ 64) × (r .change ≤ 64) × (r .sigma ≤ 64) × (r .diagnostics ≤ 3400) × (r .scratch ≤ 150000) ⌝ }
 {
     let m = replay::small(40);
     let n = replay::small(1100);
@@ -158,8 +158,8 @@ fn hold_result(held: Held, r: FitResult) -> Held {
     let iter_report = r.iter_report;
     let mut held = hold(held, r.sky_rms);
     held = hold(held, r.popn_sd);
-    let n_free = replay::wide(replay::byte());
-    let rank = replay::wide(replay::byte());
+    let n_free = little_endian::size(replay::byte());
+    let rank = little_endian::size(replay::byte());
     held = hold(held, rank_info.sigma_max);
     held = hold(held, rank_info.sigma_min);
     held = hold(held, rank_info.tol);
@@ -200,7 +200,8 @@ fn read_all_sheets(pool: &[f64], numbers: &mut [f64], lent: usize)
 // The call's slices lie in two arrays: bytes (names from 0, flags from 1,024, pier codes from 2,048) and numbers (coefficients from 0,
 // hour-angle differences from 64, declination differences from 1,280, sheets from 2,560).
 fn read_input(s: Sizes, pool: &[f64], bytes: &mut [u8], numbers: &mut [f64])
-    requires { ⌜ (s .m ≤ 40) × (s .n ≤ 1100) × (s .names ≤ 700) × (s .fixed ≤ 64) × (s .dd ≤ 1200) × (s .pier ≤ 1200) × (s .sheets ≤ 41000) × (37 * 400 ≤ length (now pool)) × (4096 ≤ length (now bytes)) × (43650 ≤ length (now numbers)) ⌝ }
+    requires { ⌜ (s .m ≤ 40) × (s .n ≤ 1100) × (s .names ≤ 700) × (s .fixed ≤ 64) × (s .dd ≤ 1200) × (s .pier ≤ 1200) × (s .sheets ≤ 41000)
+        × (37 * 400 ≤ length (now pool)) × (4096 ≤ length (now bytes)) × (43650 ≤ length (now numbers)) ⌝ }
 {
     read_bytes(bytes, 0, s.names);
     read_bytes(bytes, 1024, s.fixed);
@@ -312,9 +313,7 @@ fn by_mode(
             dd,
             pier,
             sheets,
-            p.sin_lat,
-            p.cos_lat,
-            p.fit_tol,
+            p.settings,
             out,
             change,
             sigma,
@@ -330,9 +329,7 @@ fn by_mode(
         dd,
         pier,
         sheets,
-        p.sin_lat,
-        p.cos_lat,
-        p.fit_tol,
+        p.settings,
         p.options,
         out,
         change,
@@ -354,7 +351,8 @@ fn fit(
     diagnostics: &mut [f64],
     scratch: &mut [f64],
 ) -> Fit
-    requires { ⌜ (s .m ≤ 40) × (s .n ≤ 1100) × (s .names ≤ 700) × (s .fixed ≤ 64) × (s .dd ≤ 1200) × (s .pier ≤ 1200) × (s .sheets ≤ 41000) × (4096 ≤ length (now bytes)) × (43650 ≤ length (now numbers)) ⌝ }
+    requires { ⌜ (s .m ≤ 40) × (s .n ≤ 1100) × (s .names ≤ 700) × (s .fixed ≤ 64) × (s .dd ≤ 1200) × (s .pier ≤ 1200) × (s .sheets ≤ 41000)
+        × (4096 ≤ length (now bytes)) × (43650 ≤ length (now numbers)) ⌝ }
 {
     let zero = 0usize;
     let names = s.names;
@@ -423,7 +421,8 @@ fn call(
     diagnostics: &mut [f64],
     scratch: &mut [f64],
 ) -> Tally
-    requires { ⌜ (s .m ≤ 40) × (s .n ≤ 1100) × (s .names ≤ 700) × (s .fixed ≤ 64) × (s .dd ≤ 1200) × (s .pier ≤ 1200) × (s .sheets ≤ 41000) × (4096 ≤ length (now bytes)) × (43650 ≤ length (now numbers)) ⌝ }
+    requires { ⌜ (s .m ≤ 40) × (s .n ≤ 1100) × (s .names ≤ 700) × (s .fixed ≤ 64) × (s .dd ≤ 1200) × (s .pier ≤ 1200) × (s .sheets ≤ 41000)
+        × (4096 ≤ length (now bytes)) × (43650 ≤ length (now numbers)) ⌝ }
 {
     let answer = fit(
         s,
@@ -474,12 +473,15 @@ fn read_scalars(mode: u8) -> Scalars {
     let sin_lat = replay::double();
     let cos_lat = replay::double();
     let fit_tol = replay::double();
-    let options = read_options(mode == ROBUST);
-    Scalars {
-        mode,
+    let settings = Settings {
         sin_lat,
         cos_lat,
         fit_tol,
+    };
+    let options = read_options(mode == ROBUST);
+    Scalars {
+        mode,
+        settings,
         options,
     }
 }
@@ -504,7 +506,9 @@ fn scratch_room() -> [f64; 150000]
 
 // The call with buffers of the places that its head gives.
 fn lend(t: Tally, s: Sizes, p: Scalars, bytes: &[u8], numbers: &[f64]) -> Tally
-    requires { ⌜ (s .m ≤ 40) × (s .n ≤ 1100) × (s .names ≤ 700) × (s .fixed ≤ 64) × (s .dd ≤ 1200) × (s .pier ≤ 1200) × (s .sheets ≤ 41000) × (s .coefficients ≤ 64) × (s .change ≤ 64) × (s .sigma ≤ 64) × (s .diagnostics ≤ 3400) × (s .scratch ≤ 150000) × (4096 ≤ length (now bytes)) × (43650 ≤ length (now numbers)) ⌝ }
+    requires { ⌜ (s .m ≤ 40) × (s .n ≤ 1100) × (s .names ≤ 700) × (s .fixed ≤ 64) × (s .dd ≤ 1200) × (s .pier ≤ 1200) × (s .sheets ≤ 41000)
+        × (s .coefficients ≤ 64) × (s .change ≤ 64) × (s .sigma ≤ 64) × (s .diagnostics ≤ 3400) × (s .scratch ≤ 150000) × (4096 ≤ length (now bytes))
+        × (43650 ≤ length (now numbers)) ⌝ }
 {
     let mut out = term_room();
     let mut change = term_room();

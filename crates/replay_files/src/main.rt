@@ -42,7 +42,7 @@ fn with_digit(n: usize, b: u8) -> usize
     if b'9' < b {
         return n;
     }
-    (10 * n + replay::wide(b - b'0')) % 16
+    (10 * n + little_endian::size(b - b'0')) % 16
 }
 
 // The digits of a line as a number: a question's is below 16.

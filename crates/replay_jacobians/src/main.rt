@@ -66,7 +66,7 @@ fn answer(t: Tally, names: &[u8], j: usize, sheet: &[f64], p: Place) -> Tally
     requires { ⌜ 33 * j + 33 ≤ length (now names) ⌝ }
 {
     let a = 33 * j;
-    let n = replay::wide(names[a]);
+    let n = little_endian::size(names[a]);
     if 32 < n {
         replay::abandon();
         return t;
@@ -96,7 +96,7 @@ fn answers(t: Tally, names: &[u8], k: usize, sheet: &[f64], p: Place) -> Tally
 fn block(mut t: Tally, l: u8, names: &[u8], k: usize, sheet: &mut [f64]) -> Tally
     requires { ⌜ (33 * k ≤ length (now names)) × (256 ≤ length (now sheet)) ⌝ }
 {
-    let l = replay::wide(l);
+    let l = little_endian::size(l);
     read_sheet(sheet, l);
     let sin_lat = replay::double();
     let cos_lat = replay::double();

@@ -206,7 +206,7 @@ fn at_point(t: Tally, m: PointingModel, sheet: &[f64], p: Place, op: u8) -> Tall
 
 // The same with l numbers from sheet a on.
 fn point(t: Tally, m: PointingModel, sheets: &[f64], op: u8) -> Tally {
-    let l = replay::wide(replay::byte());
+    let l = little_endian::size(replay::byte());
     let from = 37 * replay::small(65535);
     let sin_lat = replay::double();
     let cos_lat = replay::double();
@@ -247,12 +247,12 @@ fn numbers_room() -> [f64; 256]
 fn call(t: Tally, m: PointingModel, sheets: &[f64], op: u8) -> Step {
     if op == 1 {
         let mut slot = [0u8; 256];
-        let k = replay::wide(replay::byte());
+        let k = little_endian::size(replay::byte());
         return add(t, m, &mut slot, k);
     }
     if op == 2 {
         let mut numbers = numbers_room();
-        let c = replay::wide(replay::byte());
+        let c = little_endian::size(replay::byte());
         return set(t, m, &mut numbers, c);
     }
     let mut tally = t;

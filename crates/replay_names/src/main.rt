@@ -218,7 +218,7 @@ fn name(t: Tally, slot: &mut [u8], n: usize, k: usize) -> Tally
 fn record(t: Tally, n: u8) -> Tally {
     let k = replay::byte();
     let mut slot = [0u8; 256];
-    name(t, &mut slot, replay::wide(n), replay::wide(k))
+    name(t, &mut slot, little_endian::size(n), little_endian::size(k))
 }
 
 fn report(t: Tally) {

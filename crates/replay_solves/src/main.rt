@@ -4,8 +4,10 @@
 ghost use mathlib.Core.Path.{_≡_};
 ghost use Prim.Native.Nat.{_+_, _*_, _<_, _≤_};
 ghost use lib.ListN.{length, take};
+ghost use Rattle.limits.specs.Limits.{maxTerms};
 ghost use Rattle.linalg.specs.Linalg.{Placed};
 ghost use Rattle.replay_solves.specs.Systems.{Sized, Ordered};
+use limits::MAX_TERMS;
 use linalg::SolveOutcome;
 use replay::Held;
 use replay::hold;
@@ -39,8 +41,8 @@ fn read_columns(w: &mut [f64], h: usize, rows: usize, m: usize)
 }
 
 // The first m numbers of x.
-fn hold_first(held: Held, x: [f64; 32], m: usize) -> Held
-    requires { ⌜ m ≤ 32 ⌝ }
+fn hold_first(held: Held, x: [f64; MAX_TERMS], m: usize) -> Held
+    requires { ⌜ m ≤ maxTerms ⌝ }
 {
     let mut held = held;
     for i in 0..m {
@@ -55,7 +57,7 @@ fn settled_code(settled: bool) -> u8 {
 
 // The leverage of the first rows, from the columns that the solve left.
 fn hold_leverage(held: Held, w: &[f64], h: usize, rows: usize, r: SolveOutcome, m: usize) -> Held
-    requires { ⌜ (rows ≤ h) × (m ≤ 32) × Placed h (now w) (take m (r .order)) × (length (take m (r .order)) ≡ m) ⌝ }
+    requires { ⌜ (rows ≤ h) × (m ≤ maxTerms) × Placed h (now w) (take m (r .order)) × (length (take m (r .order)) ≡ m) ⌝ }
 {
     let order = r.order;
     let inv_s = r.inv_s;
@@ -68,7 +70,7 @@ fn hold_leverage(held: Held, w: &[f64], h: usize, rows: usize, r: SolveOutcome, 
 
 // The whole outcome held against the oracle's.
 fn hold_outcome(r: SolveOutcome, m: usize, w: &[f64], h: usize, rows: usize) -> Held
-    requires { ⌜ (rows ≤ h) × (m ≤ 32) × Placed h (now w) (take m (r .order)) × (length (take m (r .order)) ≡ m) ⌝ }
+    requires { ⌜ (rows ≤ h) × (m ≤ maxTerms) × Placed h (now w) (take m (r .order)) × (length (take m (r .order)) ≡ m) ⌝ }
 {
     let x = r.x;
     let cov_diag = r.cov_diag;
@@ -79,10 +81,10 @@ fn hold_outcome(r: SolveOutcome, m: usize, w: &[f64], h: usize, rows: usize) -> 
     held = hold_first(held, x, m);
     held = hold_first(held, cov_diag, m);
     held = hold_leverage(held, w, h, rows, r, m);
-    let rank = replay::wide(replay::byte());
+    let rank = little_endian::size(replay::byte());
     held = hold(held, r.sigma_max);
     held = hold(held, r.sigma_min);
-    let sweeps = replay::wide(replay::byte());
+    let sweeps = little_endian::size(replay::byte());
     let settled = replay::byte();
     let same = held.same && rank == r.rank && sweeps == r.sweeps;
     Held {
@@ -154,7 +156,7 @@ fn solve(t: Tally, head: Head, w: &mut [f64]) -> Tally
 fn record(t: Tally, m: u8, w: &mut [f64]) -> Tally
     requires { ⌜ length (now w) ≡ 10496 ⌝ }
 {
-    let m = replay::wide(m);
+    let m = little_endian::size(m);
     if m == 0 {
         replay::abandon();
         return t;

@@ -4,3 +4,6 @@ pub mod Fills
 pub mod Sums
 pub mod Only
 pub mod Combine
+pub mod Partway
+pub mod Concat
+pub mod Passes

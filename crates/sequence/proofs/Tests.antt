@@ -1,13 +1,16 @@
--- Tests: conjunctions, answers that are negated, and loops that test each element in order and stop at the first that fails. Assumes nothing.
-use Prim.Native.Nat.{ℕ, suc, _+_, _≤_, _<_}
+-- Tests: conjunctions, answers that are negated, and loops that test in order and stop at the first that fails or holds. Assumes nothing.
+use Prim.Native.Nat.{ℕ, zero, suc, _+_, _≤_, _<_}
+use native.Mathlib.Nat.{le-antisymm}
+use native.Mathlib.Omega.{arith}
 use native.Mathlib.Numerals.{add-one}
 use mathlib.Core.Path.{_≡_, refl, sym, _∙_, ap}
-use mathlib.Core.Bool.{Bool, true, false, not, _&&_, false≢true}
+use mathlib.Core.Bool.{Bool, true, false, not, _&&_, _||_, false≢true}
 use mathlib.Core.List.{List, [], _∷_, _++_}
 use borrow.Author.Tests.{not-true, not-false}
 use lib.ListN.{length, getD, drop, drop-of-length-le}
 use lib.Seq.{drop-cons}
-use Rattle.sequence.specs.Sequence.{every}
+use Rattle.sequence.specs.Sequence.{every, some}
+use Rattle.sequence.proofs.Fills.{last-or}
 
 -- ---- conjunctions
 
@@ -63,3 +66,53 @@ module _ {A : Type 0} (p : A → Bool) (s : List A) where
 
   pub every-end : (i : ℕ) → length s ≤ i → From p s i → true ≡ every p s
   every-end i h e = sym (e ∙ ap (every p) (drop-of-length-le s h))
+
+-- a loop over the indices of s, to e, has come to i
+pub record Testing {A : Type 0} (p : A → Bool) (s : List A) (e i : ℕ) : Type 0 where
+  pub end : e ≡ length s
+  pub within : i ≤ length s
+  pub left : From p s i
+
+module _ {A : Type 0} {p : A → Bool} {s : List A} where
+  pub test-start : Testing p s (length s) 0
+  test-start = record { end = refl; within = omega arith; left = refl }
+
+  module _ {e i : ℕ} (d : A) (t : Testing p s e i) (h : i < e) where
+    pub test-next : p (getD s i d) ≡ true → Testing p s e (i + 1)
+    test-next y = record { end = t .end; within = omega arith; left = every-step p s i d (omega arith) y (t .left) }
+
+    pub test-stop : p (getD s i d) ≡ false → false ≡ every p s
+    test-stop n = every-stop p s i d (omega arith) n (t .left)
+
+  pub test-end : {e i : ℕ} → Testing p s e i → e ≤ i → true ≡ every p s
+  test-end {e} {i} t h = every-end p s i (omega arith) (t .left)
+
+-- ---- a test of some index
+
+module _ (p : ℕ → Bool) where
+  pub some-none : some 0 p ≡ false
+  unfolding some
+  some-none = refl
+
+  pub some-step : (n : ℕ) → some n p ≡ false → p n ≡ false → some (n + 1) p ≡ false
+  unfolding some
+  some-step n e t = rw (add-one n, e, t)
+
+  some-more : (n : ℕ) → some n p ≡ true → some (suc n) p ≡ true
+  unfolding some
+  some-more n e = rw e
+
+  pub some-last : (n : ℕ) → p n ≡ true → some (suc n) p ≡ true
+  unfolding some
+  some-last n t = by (some n p)
+    where
+      by : (b : Bool) → (b || p n) ≡ true
+      by true = refl
+      by false = t
+
+  pub some-stop : (i n : ℕ) → i < n → p i ≡ true → true ≡ some n p
+  some-stop i zero h t = absurd (omega arith)
+  some-stop i (suc n) h t = last-or i n h (λ g. sym (some-more n (sym (some-stop i n g t)))) (λ e. sym (some-last n (ap p (sym e) ∙ t)))
+
+  pub some-end : (i n : ℕ) → i ≤ n → n ≤ i → some i p ≡ false → false ≡ some n p
+  some-end i n a b e = sym e ∙ ap (λ (k : ℕ). some k p) (le-antisymm a b)

@@ -1,7 +1,7 @@
 -- Lists as loops read and write them: tests, parts, tables, passes over indices, and sums from 0 in rising index. Definitions only.
 use Prim.Native.Nat.{ℕ, zero, suc, _+_, _≤_}
 use mathlib.Core.Path.{_≡_}
-use mathlib.Core.Bool.{Bool, true, _&&_, cond}
+use mathlib.Core.Bool.{Bool, true, false, _&&_, _||_, cond}
 use mathlib.Core.List.{List, [], _∷_, _++_, zipWith, foldl}
 use lib.ListN.{length, take, drop, getD}
 use lib.Ieee.{Float, nan, binary64, add, mul}
@@ -11,6 +11,11 @@ use Rattle.float.specs.Float.{#0, _⊕_}
 abbrev pub every : {A : Type 0} → (A → Bool) → List A → Bool
 every p [] = true
 every p (x ∷ xs) = p x && every p xs
+
+-- whether a test holds of one of 0 to n - 1
+unfoldable pub some : ℕ → (ℕ → Bool) → Bool
+some zero p = false
+some (suc n) p = some n p || p n
 
 -- the n elements from index i on
 abbrev pub part : {A : Type 0} → List A → ℕ → ℕ → List A
@@ -24,6 +29,11 @@ at l i = getD l i nan
 unfoldable pub table : {A : Type 0} → ℕ → (ℕ → A) → List A
 table zero f = []
 table (suc n) f = table n f ++ (f n ∷ [])
+
+-- the lists f 0 to f (n - 1), one after the other
+unfoldable pub concatTo : {A : Type 0} → ℕ → (ℕ → List A) → List A
+concatTo zero f = []
+concatTo (suc n) f = concatTo n f ++ f n
 
 -- d with f 0 to f (n - 1) in its first n places: a longer buffer keeps its tail
 unfoldable pub filled : {A : Type 0} → ℕ → (ℕ → A) → List A → List A

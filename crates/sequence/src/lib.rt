@@ -4,7 +4,7 @@
 ghost use mathlib.Core.Path.{_≡_};
 ghost use lib.ListN.{length, replicate};
 ghost use Rattle.float.specs.Float.{isFinite};
-ghost use Rattle.sequence.specs.Sequence.{every};
+ghost use Rattle.sequence.specs.Sequence.{every, dot};
 
 // Whether every number of s is finite.
 pub fn all_finite(s: &[f64]) -> bool
@@ -25,4 +25,32 @@ pub fn fill(s: &mut [f64], x: f64)
     for i in 0..s.len() {
         s[i] = x;
     }
+}
+
+// The numbers of `to` become those of `from`.
+pub fn copy(from: &[f64], to: &mut [f64])
+    requires { ⌜ length (now to) ≡ length (now from) ⌝ }
+    ensures { λ _. ⌜ now (to .exit) ≡ now (from .entry) ⌝ }
+{
+    for i in 0..from.len() {
+        to[i] = from[i];
+    }
+}
+
+// The sum of the squares of r.
+pub fn sum_squares(r: &[f64]) -> f64
+    ensures { λ s. ⌜ s ≡ dot (now (r .entry)) (now (r .entry)) ⌝ }
+{
+    let mut t = 0.0;
+    for k in 0..r.len() {
+        t = t + r[k] * r[k];
+    }
+    t
+}
+
+// An index as a length.
+pub fn index(i: u16) -> usize
+    ensures { λ r. ⌜ r ≡ i ⌝ }
+{
+    i as usize
 }

@@ -1,97 +1,123 @@
--- What the step of the single-step fit leaves in scratch. Assumes nothing.
-use Prim.Native.Nat.{ℕ, _+_, _-_, _*_, _≤_}
-use native.Mathlib.Nat.{mul-le-mul-right}
+-- What the step of the single-step fit leaves in scratch, and what its residuals come to. Assumes nothing.
+use Prim.Native.Nat.{ℕ, zero, suc, _+_, _-_, _*_, _≤_, _<_}
+use native.Mathlib.Nat.{add-sub-cancel-left}
 use native.Mathlib.Omega.{arith}
-use mathlib.Core.Path.{_≡_, ap, _∙_}
-use mathlib.Core.List.{List, zipWith}
+use mathlib.Core.Path.{_≡_, refl, ap, _∙_}
+use mathlib.Core.List.{List, [], _∷_, map, zipWith}
 use lib.ListN.{length, take, drop}
-use lib.Ieee.{Float, binary64, sub, lt, ofBits}
-use Rattle.float.specs.Float.{_⊕_, #0}
-use Rattle.sequence.specs.Sequence.{at, part, filled, Only}
-use Rattle.sequence.proofs.Only.{only-wider, only-then, back, back-only, back-part}
-use Rattle.linalg.specs.Linalg.{Solved, solved}
-use Rattle.column.specs.Column.{zeros}
+use lib.Seq.{sets, length-sets}
+use lib.Ieee.{Float, binary64, sub}
+use Rattle.float.specs.Float.{#0}
+use Rattle.sequence.specs.Sequence.{at, part, Only}
+use Rattle.sequence.proofs.Parts.{length-part, part-take, part-sets-same}
+use Rattle.sequence.proofs.Only.{length-cut, back, back-only, back-part}
 use Rattle.linalg.specs.declared.SolveOutcome.{SolveOutcome}
-use Rattle.solver.specs.Call.{FitInputs}
-use Rattle.design.specs.Design.{freeCount, ofFree, skyDifferences, subtractAll, freeProduct, weighing, stacked}
-use Rattle.design.specs.Filled.{skyDifferencesTo}
-use Rattle.design.proofs.Free.{free-few}
-use Rattle.products.specs.Products.{weighedTo}
-use Rattle.outcome.specs.Outcome.{starsOf, skyOf, heightOf, Fits}
-use Rattle.outcome.proofs.Laws.{skyTo-at, sky-same, sky-differences-same}
-use Rattle.single_step.specs.SingleStep.{toFit, step, changeAt, change, newCoefficients, freeResiduals, Stepped}
+use Rattle.linalg.specs.Linalg.{solved}
+use Rattle.design.specs.Design.{RunInputs, runFrom, starsAt, sightsAt, termAt, column, skyColumn, differences, skyDifferences}
+use Rattle.design.specs.Design.{subtractAll, product, weighedAt, stacked}
+use Rattle.design.specs.Counted.{Counted}
+use Rattle.design.proofs.Runs.{rows-are, height-is, columns-are, sky-columns-are, differences-are, sky-differences-are}
+use Rattle.stats.specs.declared.Sky.{Sky}
+use Rattle.stats.specs.Stats.{sumSqSky, skyOfSum, skyFrom}
+use Rattle.outcome.specs.Scratch.{countOf, heightIn, bIn, skyIn, columnsIn, solvedIn, Fits}
+use Rattle.outcome.proofs.Front.{renewed, Renewed, front-long, front-part}
+use Rattle.outcome.proofs.Runs.{fits-free, unweighed-are, sky-is}
+use Rattle.single_step.specs.SingleStep.{toFit, step, actualResiduals}
 
--- the sky column of term j, unweighed
-abbrev pub unweighed : FitInputs → List Float → ℕ → List Float
-unweighed l b = weighedTo #0 b (l .sinLat) (l .cosLat) (l .names) (l .pier) (l .sheets)
+pub zip-at : (f : Float → Float → Float) (xs ys : List Float) (k : ℕ) → length ys ≡ length xs → k < length xs → f (at xs k) (at ys k) ≡ at (zipWith f xs ys) k
+unfolding zipWith
+zip-at f [] ys k e h = absurd (omega arith)
+zip-at f (x ∷ xs) [] k e h = absurd (omega arith)
+zip-at f (x ∷ xs) (y ∷ ys) zero e h = refl
+zip-at f (x ∷ xs) (y ∷ ys) (suc k) e h = zip-at f xs ys k (omega arith) (omega arith)
 
--- w is the scratch; it has taken the differences ys, then the contributions were subtracted (w₁), the columns stacked (w₂) and the system solved (w₃)
-pub stepped : (l : FitInputs) (w ys w₁ w₂ w₃ : List Float) (free : ℕ) (r : SolveOutcome) → Fits l w → free ≡ freeCount (l .fixed)
-    → length ys ≡ length (take (4 * length (l .dh) + 2 * length (l .dh) - 4 * length (l .dh)) (drop (4 * length (l .dh)) w))
-    → ys ≡ skyDifferencesTo (l .dh) (l .dd) (l .sheets)
-    → (part w₁ (4 * length (l .dh)) (2 * length (l .pier))
-    ≡ subtractAll (length (l .coefficients)) (at (l .coefficients)) (skyTo-at l) (part (back w ys (4 * length (l .dh)) (2 * length (l .dh))) (4 * length (l .dh)) (2 * length (l .pier))))
-    × Only 0 (4 * length (l .dh) + 2 * length (l .pier)) (back w ys (4 * length (l .dh)) (2 * length (l .dh))) w₁
-    → (part w₂ (8 * length (l .dh)) (freeCount (l .fixed) * heightOf l) ≡ stacked (heightOf l) (ofFree (l .fixed) (unweighed l (part w₁ (6 * length (l .pier)) (2 * length (l .pier)))) (length (l .fixed))))
-    × Only (8 * length (l .dh)) (length (l .fixed) * heightOf l) w₁ w₂
-    → (record { outcome = r; w = part w₃ (8 * length (l .dh)) (free * heightOf l) }
-    ≡ solved (heightOf l) (2 * length (l .dh)) free (part w₂ (8 * length (l .dh)) (free * heightOf l)) (part w₂ (4 * length (l .dh)) (2 * length (l .dh))) (l .fitTol))
-    × Only (8 * length (l .dh)) (free * heightOf l) w₂ w₃
-    → (record { outcome = r; w = part w₃ (8 * length (l .dh)) (freeCount (l .fixed) * heightOf l) } ≡ step l)
-    × (part w₃ (4 * length (l .dh)) (2 * length (l .dh)) ≡ toFit l)
-    × Only 0 (8 * length (l .dh) + length (l .coefficients) * heightOf l) w w₃
-unfolding step toFit weighing lt ofBits
-stepped l w ys w₁ w₂ w₃ free r f q kept e p₁ p₂ p₃ =
-    let n = length (l .dh) in
-    let h = heightOf l in
-    let same = f .pier-count in
-    let b = back w ys (4 * n) (2 * n) in
-    let room : 4 * n + 2 * n ≤ length w = omega (arith, f .room) in
-    let start : part b (4 * n) (2 * n) ≡ skyDifferences (starsOf l) = back-part w ys (4 * n) (2 * n) room kept ∙ e ∙ sky-differences-same l in
-    let less : part w₁ (4 * n) (2 * n) ≡ subtractAll (length (l .coefficients)) (at (l .coefficients)) (skyTo-at l) (part b (4 * n) (2 * n)) = rw same at (p₁ .0) in
-    let fit₁ : part w₁ (4 * n) (2 * n) ≡ subtractAll (length (l .coefficients)) (at (l .coefficients)) (skyOf l) (skyDifferences (starsOf l)) =
-    less ∙ ap (subtractAll (length (l .coefficients)) (at (l .coefficients)) (skyTo-at l)) start ∙ ap (λ a. subtractAll (length (l .coefficients)) (at (l .coefficients)) a (skyDifferences (starsOf l))) (sky-same l same) in
-    let fit₂ = p₂ .1 .below (4 * n) (2 * n) (omega arith) ∙ fit₁ in
-    let fit₃ = p₃ .1 .below (4 * n) (2 * n) (omega arith) ∙ fit₂ in
-    let cols = p₂ .0 ∙ ap (λ a. stacked h (ofFree (l .fixed) a (length (l .fixed)))) (sky-same l same) in
-    let s = rw q at (p₃ .0) in
-    let all = 8 * n + length (l .coefficients) * h in
-    let few : free ≤ length (l .coefficients) = rw (q, ← f .fixed-count) (free-few (l .fixed) (length (l .fixed))) in
-    let fixed : length (l .fixed) * h ≡ length (l .coefficients) * h = ap (λ (k : ℕ). k * h) (f .fixed-count) in
-    let o₀ = only-wider (4 * n) (2 * n) 0 all w b (omega arith) (omega arith) (back-only w ys (4 * n) (2 * n) room kept) in
-    let o₁ = only-wider 0 (4 * n + 2 * length (l .pier)) 0 all b w₁ (omega arith) (omega (arith, same)) (p₁ .1) in
-    let o₂ = only-wider (8 * n) (length (l .fixed) * h) 0 all w₁ w₂ (omega arith) (omega (arith, fixed)) (p₂ .1) in
-    let o₃ = only-wider (8 * n) (free * h) 0 all w₂ w₃ (omega arith) (omega (arith, mul-le-mul-right h few)) (p₃ .1) in
-    let only = only-then 0 all w w₂ w₃ (only-then 0 all w w₁ w₂ (only-then 0 all w b w₁ o₀ o₁) o₂) o₃ in
-    (s ∙ ap (λ a. solved h (2 * n) (freeCount (l .fixed)) a (part w₂ (4 * n) (2 * n)) (l .fitTol)) cols ∙ ap (λ a. solved h (2 * n) (freeCount (l .fixed)) (stacked h (ofFree (l .fixed) (skyOf l) (length (l .fixed)))) a (l .fitTol)) fit₂, fit₃, only)
+-- ---- the step: the x numbers from x on came back as ys (u), the front of y numbers as zs (v), and the numbers from x on were copied to y
 
--- ---- the step and its residuals
+module _ (w ys : List Float) (x y : ℕ) (low : x + x ≤ y) (room : y + x ≤ length w) (kept : length ys ≡ length (take (x + x - x) (drop x w))) where
+  back-long : length (back w ys x x) ≡ length w
+  back-long = back-only w ys x x (omega arith) kept .long
 
-pub made-step : (l : FitInputs) (w w₁ w₂ : List Float) (o : SolveOutcome) (ch new : List Float) → Fits l w
-    → (record { outcome = o; w = part w₁ (8 * length (l .dh)) (freeCount (l .fixed) * heightOf l) } ≡ step l) × (part w₁ (4 * length (l .dh)) (2 * length (l .dh)) ≡ toFit l)
-    × Only 0 (8 * length (l .dh) + length (l .coefficients) * heightOf l) w w₁
-    → ch ≡ filled (length (l .fixed)) (changeAt (l .fixed) (o .x)) zeros
-    → new ≡ filled (length (l .coefficients)) (λ j. at (l .coefficients) j ⊕ at ch j) zeros
-    → (part w₂ (2 * length (l .pier)) (2 * length (l .pier))
-    ≡ zipWith (sub binary64) (part w₁ (4 * length (l .pier)) (2 * length (l .pier))) (freeProduct (2 * length (l .pier)) (length (l .fixed)) (l .fixed) (o .x) (unweighed l (part w₁ (6 * length (l .pier)) (2 * length (l .pier))))))
-    × Only 0 (2 * length (l .pier) + 2 * length (l .pier)) w₁ w₂
-    → Stepped l w w₂ ch new o
-unfolding change newCoefficients freeResiduals weighing lt ofBits
-made-step l w w₁ w₂ o ch new f p ec en q =
-    let n = length (l .dh) in
-    let m = length (l .coefficients) in
-    let same = f .pier-count in
-    let r : part w₂ (2 * n) (2 * n) ≡ zipWith (sub binary64) (part w₁ (4 * n) (2 * n)) (freeProduct (2 * n) (length (l .fixed)) (l .fixed) (o .x) (skyTo-at l)) = rw same at (q .0) in
-    let kept : part w₂ (8 * n) (freeCount (l .fixed) * heightOf l) ≡ part w₁ (8 * n) (freeCount (l .fixed) * heightOf l) =
-    q .1 .above (8 * n) (freeCount (l .fixed) * heightOf l) (omega (arith, same)) in
-    let c : ch ≡ filled m (changeAt (l .fixed) (step l .outcome .x)) zeros =
-    ec ∙ ap (λ (k : ℕ). filled k (changeAt (l .fixed) (o .x)) zeros) (f .fixed-count) ∙ ap (λ (s : Solved). filled m (changeAt (l .fixed) (s .outcome .x)) zeros) (p .0) in
-    record {
-      changes = c;
-      coefficients = en ∙ ap (λ (d : List Float). filled m (λ j. at (l .coefficients) j ⊕ at d j) zeros) c;
-      solution = ap (λ (u : List Float). record { outcome = o; w = u }) kept ∙ p .0;
-      only = only-then 0 (8 * n + m * heightOf l) w w₁ w₂ (p .2) (only-wider 0 (2 * length (l .pier) + 2 * length (l .pier)) 0 (8 * n + m * heightOf l) w₁ w₂ (omega arith) (omega (arith, same)) (q .1));
-      left = r ∙ ap (λ (b : List Float). zipWith (sub binary64) b (freeProduct (2 * n) (length (l .fixed)) (l .fixed) (o .x) (skyTo-at l))) (p .1)
-          ∙ ap (λ (s : Solved). zipWith (sub binary64) (toFit l) (freeProduct (2 * n) (length (l .fixed)) (l .fixed) (s .outcome .x) (skyTo-at l))) (p .0)
-          ∙ ap (λ a. zipWith (sub binary64) (toFit l) (freeProduct (2 * n) (length (l .fixed)) (l .fixed) (step l .outcome .x) a)) (sky-same l same);
-    }
+  pub back-fits : y ≤ length (back w ys x x)
+  back-fits = let long : length (back w ys x x) ≡ length w = back-long in omega arith
+
+  module _ {zs : List Float} (r : Renewed (back w ys x x) zs y) where
+    pub copied-long : (w′ : List Float) → w′ ≡ sets (renewed (back w ys x x) zs y) y (part (renewed (back w ys x x) zs y) x x) → length w′ ≡ length w
+    copied-long w′ e =
+        let v = renewed (back w ys x x) zs y in
+        ap length e ∙ length-sets v y (part v x x) ∙ front-long r ∙ back-long
+
+    -- F of what came back first
+    copied : (w′ : List Float) (F : List Float → List Float) → w′ ≡ sets (renewed (back w ys x x) zs y) y (part (renewed (back w ys x x) zs y) x x)
+        → part zs x x ≡ F (part (take y (back w ys x x)) x x) → part w′ y x ≡ F ys
+    copied w′ F e made =
+        let u = back w ys x x in
+        let v = renewed u zs y in
+        let long : length v ≡ length w = front-long r ∙ back-long in
+        let there : part v x x ≡ F ys = front-part r x x low ∙ made ∙ ap F (part-take u x x y low back-fits ∙ back-part w ys x x (omega arith) kept) in
+        let count : length (part v x x) ≡ x = length-part v x x (omega arith) in
+        ap (λ (t : List Float). part t y x) e ∙ part-sets-same v y x (part v x x) count (omega arith) ∙ there
+
+pub fitted-to : (l : RunInputs) (s w ys zs w′ : List Float) → Fits l w
+    → length ys ≡ length (take (2 * countOf l + 2 * countOf l - 2 * countOf l) (drop (2 * countOf l) w))
+    → ys ≡ skyDifferences (starsAt (l .dh) (l .dd) [] (l .sheets) (l .used))
+    → Renewed (back w ys (2 * countOf l) (2 * countOf l)) zs (4 * countOf l)
+    → part zs (2 * countOf l) (2 * countOf l)
+    ≡ subtractAll (length s) (at s) (λ j. skyColumn (l .settings) (sightsAt (l .pier) (l .sheets) (l .used)) (termAt (l .names) j))
+    (part (take (4 * countOf l) (back w ys (2 * countOf l) (2 * countOf l))) (2 * countOf l) (2 * countOf l))
+    → w′ ≡ sets (renewed (back w ys (2 * countOf l) (2 * countOf l)) zs (4 * countOf l)) (4 * countOf l)
+    (part (renewed (back w ys (2 * countOf l) (2 * countOf l)) zs (4 * countOf l)) (2 * countOf l) (2 * countOf l))
+    → bIn l w′ ≡ toFit (runFrom l) s
+unfolding toFit
+fitted-to l s w ys zs w′ f kept is r made e =
+    let F = subtractAll (length s) (at s) (λ j. skyColumn (l .settings) (sightsAt (l .pier) (l .sheets) (l .used)) (termAt (l .names) j)) in
+    copied w ys (2 * countOf l) (4 * countOf l) (omega arith) (omega (arith, f .room)) kept r w′ F e made
+    ∙ rw (is, sky-columns-are l, sky-differences-are l) refl
+
+-- what the solver requires, of a list v as long
+pub solver-ready : (l : RunInputs) (w v : List Float) → Fits l w → length v ≡ length w
+    → (0 < length (l .free)) × (length (l .free) ≤ 32) × (2 * countOf l + length (l .free) ≤ heightIn l)
+    × (8 * countOf l + length (l .free) * heightIn l ≤ length v) × (2 * countOf l ≤ 2 * countOf l) × (4 * countOf l + 2 * countOf l ≤ 8 * countOf l)
+solver-ready l w v f e =
+    let r = fits-free l w f in
+    (f .counted .some-free, r .0, omega (arith, f .counted .free-few), rw e (r .1), omega arith, omega arith)
+
+-- the residuals were at 4·n (w), then the columns were stacked (w₁) and the system solved (w₂)
+pub stepped : (l : RunInputs) (s w w₁ w₂ : List Float) (o : SolveOutcome) → Counted l → bIn l w ≡ toFit (runFrom l) s
+    → part w₁ (8 * countOf l) (length (l .free) * heightIn l)
+    ≡ stacked (heightIn l) (map (weighedAt #0 (skyIn l w) (l .settings) (sightsAt (l .pier) (l .sheets) (l .used)) (l .names)) (l .free))
+    → Only (8 * countOf l) (length (l .free) * heightIn l) w w₁
+    → solvedIn l w₂ o ≡ solved (heightIn l) (2 * countOf l) (length (l .free)) (columnsIn l w₁) (bIn l w₁) (l .settings .«fit_tol»)
+    → Only (8 * countOf l) (length (l .free) * heightIn l) w₁ w₂
+    → (solvedIn l w₂ o ≡ step (runFrom l) s) × (bIn l w₂ ≡ toFit (runFrom l) s)
+unfolding step
+stepped l s w w₁ w₂ o c b cols only e only′ =
+    let n = countOf l in
+    let b₁ : bIn l w₁ ≡ toFit (runFrom l) s = only .below (4 * n) (2 * n) (omega arith) ∙ b in
+    (e ∙ rw (cols, unweighed-are l (skyIn l w), b₁, height-is l, rows-are l) refl, only′ .below (4 * n) (2 * n) (omega arith) ∙ b₁)
+
+-- ---- what is left on the sky
+
+-- a part that came back is lent again
+pub again : (v ys : List Float) (x : ℕ) → x + x ≤ length v → length ys ≡ length (take (x + x - x) (drop x v))
+    → length (take (x + x - x) (drop x (back v ys x x))) ≡ x
+again v ys x room kept = length-cut (back v ys x x) x x (rw (back-only v ys x x room kept .long) room)
+
+-- a product was made at x in v, and taken from the differences, which came back there as ys
+pub left-on-sky : (l : RunInputs) (s v ys : List Float) (sum : Float) (sky : Sky) → Counted l → 2 * countOf l + 2 * countOf l ≤ length v
+    → part v (2 * countOf l) (2 * countOf l)
+    ≡ product (2 * countOf l) (length s) (at s) (λ j. column (l .settings) (sightsAt (l .pier) (l .sheets) (l .used)) (termAt (l .names) j))
+    → length ys ≡ length (take (2 * countOf l + 2 * countOf l - 2 * countOf l) (drop (2 * countOf l) v))
+    → ys ≡ zipWith (sub binary64) (differences (starsAt (l .dh) (l .dd) [] [] (l .used)))
+    (take (2 * countOf l + 2 * countOf l - 2 * countOf l) (drop (2 * countOf l) v))
+    → sum ≡ sumSqSky (sightsAt [] (l .sheets) (l .used))
+    (take (2 * countOf l + 2 * countOf l - 2 * countOf l) (drop (2 * countOf l) (back v ys (2 * countOf l) (2 * countOf l))))
+    → sky ≡ skyOfSum (countOf l) (length (l .free)) sum
+    → sky ≡ skyFrom (runFrom l .stars) (length (l .free)) (actualResiduals (runFrom l) s)
+unfolding actualResiduals
+left-on-sky l s v ys sum sky c room p kept e q g =
+    let x = 2 * countOf l in
+    let cut : x + x - x ≡ x = add-sub-cancel-left x x in
+    let is : ys ≡ actualResiduals (runFrom l) s = rw (cut, p, differences-are l, columns-are l, rows-are l) at e in
+    let there : take (x + x - x) (drop x (back v ys x x)) ≡ actualResiduals (runFrom l) s =
+    ap (λ (k : ℕ). take k (drop x (back v ys x x))) cut ∙ back-part v ys x x room kept ∙ is in
+    sky-is l (actualResiduals (runFrom l) s) sum sky (rw there at q) g

@@ -3,6 +3,8 @@ use Prim.Native.Nat.{ℕ}
 use mathlib.Core.List.{List}
 use lib.ListN.{length}
 use lib.Ieee.{Float}
+use Rattle.solver.specs.declared.Settings.{Settings}
+use Rattle.solver.specs.declared.Sizes.{Sizes}
 
 -- the input: names in slots of 16 bytes, flags and coefficients, a term each; raw differences, pier codes and sheets, a star each
 pub record FitInputs : Type 0 where
@@ -13,9 +15,7 @@ pub record FitInputs : Type 0 where
   pub dd : List Float
   pub pier : List ℕ
   pub sheets : List Float
-  pub sinLat : Float
-  pub cosLat : Float
-  pub fitTol : Float
+  pub settings : Settings
 
 -- the content of the buffers
 pub record Buffers : Type 0 where
@@ -25,25 +25,24 @@ pub record Buffers : Type 0 where
   pub diagnostics : List Float
   pub scratch : List Float
 
--- how long they are
-pub record Sizes : Type 0 where
-  pub coefficients : ℕ
-  pub change : ℕ
-  pub sigma : ℕ
-  pub diagnostics : ℕ
-  pub scratch : ℕ
+abbrev pub settingsOf : Float → Float → Float → Settings
+settingsOf sinLat cosLat fitTol = record { «sin_lat» = sinLat; «cos_lat» = cosLat; «fit_tol» = fitTol }
 
-abbrev pub inputs : List ℕ → List ℕ → List Float → List Float → List Float → List ℕ → List Float → Float → Float → Float → FitInputs
-inputs names fixed coefficients dh dd pier sheets sinLat cosLat fitTol =
-    record { names = names; fixed = fixed; coefficients = coefficients; dh = dh; dd = dd; pier = pier; sheets = sheets; sinLat = sinLat; cosLat = cosLat; fitTol = fitTol }
+abbrev pub inputs : List ℕ → List ℕ → List Float → List Float → List Float → List ℕ → List Float → Settings → FitInputs
+inputs names fixed coefficients dh dd pier sheets settings =
+    record { names = names; fixed = fixed; coefficients = coefficients; dh = dh; dd = dd; pier = pier; sheets = sheets; settings = settings }
 
 abbrev pub buffers : List Float → List Float → List Float → List Float → List Float → Buffers
 buffers coefficients change sigma diagnostics scratch =
     record { coefficients = coefficients; change = change; sigma = sigma; diagnostics = diagnostics; scratch = scratch }
 
-abbrev pub sizes : ℕ → ℕ → ℕ → ℕ → ℕ → Sizes
-sizes coefficients change sigma diagnostics scratch =
-    record { coefficients = coefficients; change = change; sigma = sigma; diagnostics = diagnostics; scratch = scratch }
-
+-- how long they are
 abbrev pub sizesOf : Buffers → Sizes
-sizesOf b = sizes (length (b .coefficients)) (length (b .change)) (length (b .sigma)) (length (b .diagnostics)) (length (b .scratch))
+sizesOf b =
+    record {
+      coefficients = length (b .coefficients);
+      change = length (b .change);
+      sigma = length (b .sigma);
+      diagnostics = length (b .diagnostics);
+      scratch = length (b .scratch);
+    }

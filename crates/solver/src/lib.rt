@@ -3,6 +3,22 @@
 ghost use mathlib.Core.Path.{_≡_};
 ghost use Rattle.solver.specs.Records.{deficient, conditionNumber, defaults};
 
+// What a fit is given as numbers: sine and cosine of the latitude, and the tolerance of the solver.
+pub struct Settings {
+    pub sin_lat: f64,
+    pub cos_lat: f64,
+    pub fit_tol: f64,
+}
+
+// How many numbers the buffers of a fit have room for.
+pub struct Sizes {
+    pub coefficients: usize,
+    pub change: usize,
+    pub sigma: usize,
+    pub diagnostics: usize,
+    pub scratch: usize,
+}
+
 // What the solver found of the free terms' columns.
 pub struct RankInfo {
     pub n_free: usize,

@@ -4,13 +4,14 @@ use mathlib.Core.Bool.{_&&_, cond}
 use mathlib.Core.List.{List}
 use lib.Dec.{leb}
 use lib.IntN.{pos}
+use lib.ListN.{length}
 use lib.Ieee.{Float, binary64, ofInt, lt}
 use Rattle.float.specs.Float.{_⊕_, _⊖_, _⊗_, _⊘_, #0, #1, #2, abs}
 use Rattle.sqrt.specs.Sqrt as Root
 use Rattle.sequence.specs.Sequence.{at, sumTo, dot}
 use Rattle.solver.specs.declared.ObsDiagnostic.{ObsDiagnostic}
 use Rattle.stats.specs.declared.Sky.{Sky}
-use Rattle.design.specs.Design.{isFree, freeBefore}
+use Rattle.design.specs.Design.{Star, skyRows}
 
 abbrev pub sqrt : Float → Float
 sqrt x = Root.sqrt binary64 x
@@ -25,43 +26,40 @@ degrees n k = max (n - k) 1
 
 -- ---- on the sky
 
--- dx·dx + dd·dd of star i, where dx is the hour-angle residual times cos dec
-abbrev pub skySquare : (ℕ → Float) → List Float → ℕ → Float
-skySquare cosDec r i =
-    let dx = at r (2 * i) ⊗ cosDec i in
-    let dd = at r (2 * i + 1) in
+-- dx·dx + dd·dd of star i, where dx is the hour-angle residual times cos dec: of two numbers a star that are on the sky already
+abbrev pub skySquare : List Float → ℕ → Float
+skySquare sky i =
+    let dx = at sky (2 * i) in
+    let dd = at sky (2 * i + 1) in
     dx ⊗ dx ⊕ dd ⊗ dd
 
--- sum_sq_sky of n stars: one sum, in order
-unfoldable pub sumSqSky : ℕ → (ℕ → Float) → List Float → Float
-sumSqSky n cosDec r = sumTo n (skySquare cosDec r)
+-- sum_sq_sky: one sum, in order
+unfoldable pub sumSqSky : List Star → List Float → Float
+sumSqSky ss r = sumTo (length ss) (skySquare (skyRows ss r))
 
 -- the RMS of n stars, from that sum
 abbrev pub rmsOf : ℕ → Float → Float
 rmsOf n sum = cond (leb n 0) #0 (sqrt (sum ⊘ count n))
 
-unfoldable pub skyRms : ℕ → (ℕ → Float) → List Float → Float
-skyRms n cosDec r = rmsOf n (sumSqSky n cosDec r)
-
 -- 0 where there are no more stars than free terms
 abbrev pub sdOf : ℕ → ℕ → Float → Float
 sdOf n nFree sum = cond (leb n nFree) #0 (sqrt (sum ⊘ count (n - nFree)))
 
-unfoldable pub popnSd : ℕ → (ℕ → Float) → List Float → ℕ → Float
-popnSd n cosDec r nFree = sdOf n nFree (sumSqSky n cosDec r)
+abbrev pub skyOfSum : ℕ → ℕ → Float → Sky
+skyOfSum n nFree sum = record { rms = rmsOf n sum; «popn_sd» = sdOf n nFree sum }
 
--- both
-abbrev pub skyFrom : ℕ → (ℕ → Float) → ℕ → List Float → Sky
-skyFrom n cosDec nFree r = record { rms = skyRms n cosDec r; «popn_sd» = popnSd n cosDec r nFree }
+-- compute_sky_rms and compute_popn_sd
+unfoldable pub skyFrom : List Star → ℕ → List Float → Sky
+skyFrom ss nFree r = skyOfSum (length ss) nFree (sumSqSky ss r)
 
 -- ---- sigma: stars less rank
 
 unfoldable pub variance : List Float → ℕ → ℕ → Float
 variance r n rank = dot r r ⊘ count (degrees n rank)
 
--- a free term's sigma, from its place in the covariance diagonal; a fixed term's is 0
-unfoldable pub sigmaAt : List ℕ → Float → List Float → ℕ → Float
-sigmaAt fixed s2 cov j = cond (isFree fixed j) (sqrt (abs (s2 ⊗ at cov (freeBefore fixed j)))) #0
+-- that of the i-th free term, from the covariance diagonal
+abbrev pub sigmaAt : Float → List Float → ℕ → Float
+sigmaAt s2 cov i = sqrt (abs (s2 ⊗ at cov i))
 
 -- ---- diagnostics: rows less rank
 

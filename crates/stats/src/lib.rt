@@ -1,12 +1,15 @@
 // The statistics of a fit. After solver/stats.rs.
 
 ghost use mathlib.Core.Path.{_≡_};
+ghost use mathlib.Core.List.{[]};
 ghost use Prim.Native.Nat.{_+_, _*_, _≤_};
-ghost use lib.ListN.{length, replicate};
-ghost use Rattle.float.specs.Float.{#0};
-ghost use Rattle.sequence.specs.Sequence.{filled, dot as dotOf};
-ghost use Rattle.design.specs.Design.{sheetAt, cosDec};
-ghost use Rattle.stats.specs.Stats.{degrees as degreesOf, sumSqSky, rmsOf, sdOf, skyFrom, variance as varianceOf, sigmaAt, clamped as clampedOf, studentizedRow, diagnostic as diagnosticOf};
+ghost use lib.ListN.{length};
+ghost use Rattle.limits.specs.Limits.{maxTerms, maxStars, sheetNumbers};
+ghost use Rattle.design.specs.Design.{sightsAt, scattered};
+ghost use Rattle.design.specs.Counted.{Below};
+ghost use Rattle.stats.specs.Stats.{degrees as degreesOf, sumSqSky, rmsOf, sdOf, skyOfSum, variance as varianceOf, sigmaAt};
+ghost use Rattle.stats.specs.Stats.{clamped as clampedOf, studentizedRow, diagnostic as diagnosticOf};
+use limits::MAX_TERMS;
 use solver::ObsDiagnostic;
 
 // What is left on the sky.
@@ -15,14 +18,14 @@ pub struct Sky {
     pub popn_sd: f64,
 }
 
-// The squares of n stars' residuals on the sky, two residuals a star, as one sum in order.
-pub fn sum_sq_sky(sheets: &[f64], r: &[f64], n: usize) -> f64
-    requires { ⌜ (length (now sheets) ≡ 37 * n) × (length (now r) ≡ 2 * n) ⌝ }
-    ensures { λ s. ⌜ s ≡ sumSqSky n (λ i. cosDec (sheetAt (now (sheets .entry)) i)) (now (r .entry)) ⌝ }
+// The squares of the residuals r on the sky, two a star, as one sum in order; the sheets are those of n stars.
+pub fn sum_sq_sky(sheets: &[f64], n: usize, used: &[u16], r: &[f64]) -> f64
+    requires { ⌜ (length (now sheets) ≡ sheetNumbers * n) × Below n (now used) × (length (now r) ≡ 2 * length (now used)) ⌝ }
+    ensures { λ s. ⌜ s ≡ sumSqSky (sightsAt [] (now (sheets .entry)) (now (used .entry))) (now (r .entry)) ⌝ }
 {
     let mut sum = 0.0;
-    for i in 0..n {
-        let dx = r[2 * i] * design::cos_dec(sheets, i);
+    for i in 0..used.len() {
+        let dx = r[2 * i] * design::cos_dec(sheets, sequence::index(used[i]));
         let dd = r[2 * i + 1];
         sum = sum + (dx * dx + dd * dd);
     }
@@ -30,7 +33,7 @@ pub fn sum_sq_sky(sheets: &[f64], r: &[f64], n: usize) -> f64
 }
 
 fn compute_sky_rms(sum: f64, n: usize) -> f64
-    requires { ⌜ n ≤ 1024 ⌝ }
+    requires { ⌜ n ≤ maxStars ⌝ }
     ensures { λ r. ⌜ r ≡ rmsOf n sum ⌝ }
 {
     if n == 0 {
@@ -40,7 +43,7 @@ fn compute_sky_rms(sum: f64, n: usize) -> f64
 }
 
 fn compute_popn_sd(sum: f64, n: usize, n_free: usize) -> f64
-    requires { ⌜ n ≤ 1024 ⌝ }
+    requires { ⌜ n ≤ maxStars ⌝ }
     ensures { λ r. ⌜ r ≡ sdOf n «n_free» sum ⌝ }
 {
     if n <= n_free {
@@ -51,31 +54,12 @@ fn compute_popn_sd(sum: f64, n: usize, n_free: usize) -> f64
 
 // Of n stars, from that sum, where n_free terms are free.
 pub fn sky_of_sum(sum: f64, n: usize, n_free: usize) -> Sky
-    requires { ⌜ n ≤ 1024 ⌝ }
-    ensures { λ r. ⌜ r ≡ record { rms = rmsOf n sum; «popn_sd» = sdOf n «n_free» sum } ⌝ }
+    requires { ⌜ n ≤ maxStars ⌝ }
+    ensures { λ r. ⌜ r ≡ skyOfSum n «n_free» sum ⌝ }
 {
     let rms = compute_sky_rms(sum, n);
     let popn_sd = compute_popn_sd(sum, n, n_free);
     Sky { rms, popn_sd }
-}
-
-// The same from the residuals.
-pub fn on_the_sky(sheets: &[f64], r: &[f64], n: usize, n_free: usize) -> Sky
-    requires { ⌜ (n ≤ 1024) × (length (now sheets) ≡ 37 * n) × (length (now r) ≡ 2 * n) ⌝ }
-    ensures { λ s. ⌜ s ≡ skyFrom n (λ i. cosDec (sheetAt (now (sheets .entry)) i)) «n_free» (now (r .entry)) ⌝ }
-{
-    sky_of_sum(sum_sq_sky(sheets, r, n), n, n_free)
-}
-
-// The sum of the squares of r.
-fn squares(r: &[f64]) -> f64
-    ensures { λ s. ⌜ s ≡ dotOf (now (r .entry)) (now (r .entry)) ⌝ }
-{
-    let mut t = 0.0;
-    for k in 0..r.len() {
-        t = t + r[k] * r[k];
-    }
-    t
 }
 
 // n less k, and at least 1.
@@ -93,25 +77,18 @@ pub fn variance(r: &[f64], n: usize, rank: usize) -> f64
     requires { ⌜ n ≤ 2048 ⌝ }
     ensures { λ s. ⌜ s ≡ varianceOf (now (r .entry)) n rank ⌝ }
 {
-    squares(r) / degrees(n, rank) as f64
+    sequence::sum_squares(r) / degrees(n, rank) as f64
 }
 
-// The sigmas of m terms, from the place of each free one in the covariance diagonal.
-pub fn compute_sigma(fixed: &[u8], m: usize, s2: f64, cov_diag: [f64; 32]) -> [f64; 32]
-    requires { ⌜ (m ≤ 32) × (length (now fixed) ≡ m) ⌝ }
-    ensures { λ r. ⌜ r ≡ filled m (sigmaAt (now (fixed .entry)) s2 «cov_diag») (replicate 32 #0) ⌝ }
+// The sigmas of the free terms, each in its place.
+pub fn compute_sigma(free: &[u16], s2: f64, cov_diag: &[f64; MAX_TERMS], sigma: &mut [f64])
+    requires { ⌜ (length (now free) ≤ maxTerms) × Below (length (now sigma)) (now free) ⌝ }
+    ensures { λ _. ⌜ now (sigma .exit) ≡ scattered (now (free .entry)) (sigmaAt s2 (now («cov_diag» .entry))) (now (sigma .entry)) ⌝ }
 {
-    let mut sigma = [0.0; 32];
-    let mut fi = 0usize;
-    for j in 0..m {
-        if fixed[j] == 0 {
-            sigma[j] = sqrt::sqrt(float::abs(s2 * cov_diag[fi]));
-            fi += 1;
-        } else {
-            sigma[j] = 0.0;
-        }
+    for i in 0..free.len() {
+        let j = sequence::index(free[i]);
+        sigma[j] = sqrt::sqrt(float::abs(s2 * cov_diag[i]));
     }
-    sigma
 }
 
 fn clamped(x: f64) -> f64

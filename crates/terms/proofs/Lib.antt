@@ -4,3 +4,4 @@ pub mod Digits
 pub mod Slots
 pub mod Asked
 pub mod Parts
+pub mod Same

@@ -4,9 +4,9 @@ use native.Mathlib.Omega.{arith}
 use native.Mathlib.Numerals.{add-one}
 use mathlib.Core.Path.{_≡_, refl, _∙_, ap, ap₂, sym}
 use mathlib.Core.Bool.{Bool, true, false, cond, _&&_, and-false}
-use mathlib.Core.List.{List, [], _∷_, _++_, map, map-append}
-use lib.ListN.{length, getD, take, drop, set, replicate, length-map, length-drop, drop-of-length-le, take-append-drop}
-use lib.Seq.{take-all, length-take-le, drop-cons, take-at, take-suc, take-suc-set}
+use mathlib.Core.List.{List, [], _∷_, _++_, append-nil, map, map-append}
+use lib.ListN.{length, getD, take, drop, replicate, length-map, length-drop, drop-of-length-le, take-append-drop}
+use lib.Seq.{take-all, length-take-le, take-suc, append-snoc, drop-cons, take-at}
 use lib.Dec.{eqb, ltb, leb}
 use borrow.Author.Tests.{leb-true, ltb-true, lt-ltb, eq-eqb, ne-eqb, eqb-true, eqb-false}
 use Rattle.sequence.specs.Sequence.{every}
@@ -16,30 +16,27 @@ use Rattle.sequence.proofs.Tests.{left-of, right-of}
 
 -- ---- the loop that looks for the first zero
 
-module _ (s : List ℕ) (i : ℕ) (h : i < length s) where
-  pub name-next : eqb (getD s i 0) 0 ≡ false → i + length (nameOf (drop i s)) ≡ i + 1 + length (nameOf (drop (i + 1) s))
-  unfolding nameOf
-  name-next e =
-      let d : nameOf (drop i s) ≡ getD s i 0 ∷ nameOf (drop (i + 1) s) = rw (add-one, drop-cons s i 0, e) in
-      omega (arith, ap length d)
+-- the bytes passed are the name's, and what is left has the rest of it
+abbrev pub Named : List ℕ → ℕ → Type 0
+Named s k = nameOf s ≡ take k s ++ nameOf (drop k s)
 
-  pub name-stop : eqb (getD s i 0) 0 ≡ true → i + length (nameOf (drop i s)) ≡ i
-  unfolding nameOf
-  name-stop e =
-      let d : nameOf (drop i s) ≡ [] = rw (drop-cons s i 0, e) in
-      omega (arith, ap length d)
-
-pub name-last : (s : List ℕ) (i : ℕ) → length s ≤ i → i + length (nameOf (drop i s)) ≡ i
+pub named-next : (s : List ℕ) (k : ℕ) → k < length s → (getD s k 0 ≡ 0 → ⊥) → Named s k → Named s (k + 1)
 unfolding nameOf
-name-last s i h = omega (arith, ap (λ u. length (nameOf u)) (drop-of-length-le s h))
+named-next s k h z e =
+    let d : nameOf (drop k s) ≡ getD s k 0 ∷ nameOf (drop (suc k) s) = rw (drop-cons s k 0 h, ne-eqb (getD s k 0) 0 z) in
+    rw (add-one k, take-suc s k 0 h) (e ∙ rw d (sym (append-snoc (take k s) (getD s k 0) (nameOf (drop (suc k) s)))))
 
--- ---- the loop that writes capitals
+pub named-stop : (s : List ℕ) (k : ℕ) → k < length s → getD s k 0 ≡ 0 → Named s k → nameOf s ≡ take k s
+unfolding nameOf
+named-stop s k h z e =
+    let d : nameOf (drop k s) ≡ [] = rw (drop-cons s k 0 h, eq-eqb (getD s k 0) 0 z) in
+    e ∙ rw d (append-nil (take k s))
 
--- one more byte is written: those up to i are f of the text's
-pub map-next : (f : ℕ → ℕ) (s out : List ℕ) (i : ℕ) → i < length s → i < length out → take i out ≡ map f (take i s)
-    → take (i + 1) (set out i (f (getD s i 0))) ≡ map f (take (i + 1) s)
-map-next f s out i h k e =
-    rw (add-one, take-suc-set out i (f (getD s i 0)), take-suc s i 0, map-append f (take i s) (getD s i 0 ∷ [])) (ap (λ l. l ++ (f (getD s i 0) ∷ [])) e)
+pub named-end : (s : List ℕ) (k : ℕ) → length s ≤ k → Named s k → nameOf s ≡ take k s
+unfolding nameOf
+named-end s k h e =
+    let d : nameOf (drop k s) ≡ [] = rw (drop-of-length-le s h) in
+    e ∙ rw d (append-nil (take k s))
 
 -- ---- a slot's name
 

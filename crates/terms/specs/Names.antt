@@ -7,6 +7,7 @@ use mathlib.Core.Option.{Option, none, some}
 use mathlib.Core.Bool.{Bool, true, false, _&&_, cond}
 use lib.ListN.{length, getD, drop, replicate}
 use lib.Dec.{ltb, leb, eqb}
+use Rattle.limits.specs.Limits.{slotBytes}
 use Rattle.sequence.specs.Sequence.{every}
 use Rattle.equatorial.specs.declared.EquatorialTerm.the-variants.{IH, ID, CH, NP, MA, ME, TF, TX, TXN, DAF, FO, HCES, HCEC, DCES, DCEC}
 use Rattle.harmonic.specs.Table.{ascii}
@@ -33,7 +34,7 @@ capital b = cond (leb (code "a") b && leb b (code "z")) (b - 32) b
 
 -- sixteen bytes, with zeros behind
 abbrev pub padded : List ℕ → List ℕ
-padded n = n ++ replicate (16 - length n) 0
+padded n = n ++ replicate (slotBytes - length n) 0
 
 -- the bytes before the first zero
 unfoldable pub nameOf : List ℕ → List ℕ
@@ -143,6 +144,6 @@ unfoldable pub readTerm : List ℕ → Reading
 readTerm slot =
     let n = map capital (nameOf slot) in
     firstNo refused (byKnown n (find fixedNames n))
-    (ask (eqb (length slot) 16) 2 ∷
+    (ask (eqb (length slot) slotBytes) 2 ∷
     ask (wellFormed slot) 7 ∷
     [])

@@ -3,12 +3,13 @@ use Prim.Native.Nat.{ℕ, zero, suc, _*_}
 use mathlib.Core.Bool.{cond}
 use mathlib.Core.List.{List}
 use lib.Dec.{eqb}
+use Rattle.limits.specs.Limits.{slotBytes}
 use Rattle.sequence.specs.Sequence.{part}
 use Rattle.terms.specs.Names.{readTerm}
 
 -- the name of term i is in the 16 bytes that begin at 16·i
 abbrev pub slot : List ℕ → ℕ → List ℕ
-slot names i = part names (16 * i) 16
+slot names i = part names (slotBytes * i) slotBytes
 
 -- the first of f 0 to f (n - 1) that is not 0, or 0
 unfoldable pub firstOf : ℕ → (ℕ → ℕ) → ℕ

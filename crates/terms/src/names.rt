@@ -5,6 +5,7 @@ ghost use mathlib.Core.List.{_++_, map};
 ghost use Prim.Native.Nat.{_≤_, _<_};
 ghost use lib.Dec.{ltb, eqb};
 ghost use lib.ListN.{length};
+ghost use Rattle.limits.specs.Limits.{slotBytes};
 ghost use Rattle.sequence.specs.Sequence.{every};
 ghost use Rattle.harmonic.specs.Table.{ascii, lookup};
 ghost use Rattle.terms.specs.declared.names.Known.{Known};
@@ -16,6 +17,7 @@ use crate::TermKind;
 use equatorial::EquatorialTerm;
 use harmonic::Components;
 use harmonic::no_components;
+use limits::SLOT;
 
 // What a name in capitals is, if it is one of the fixed names.
 pub enum Known {
@@ -34,7 +36,7 @@ pub enum NumberRead {
 pub fn refuse(number: u8) -> Reading
     ensures { λ r. ⌜ r ≡ refused number ⌝ }
 {
-    let name = [0u8; 16];
+    let name = [0u8; SLOT];
     let components = no_components();
     let term = Term {
         kind: TermKind::Equatorial(EquatorialTerm::IH),
@@ -48,7 +50,7 @@ pub fn refuse(number: u8) -> Reading
 }
 
 // The answer for a name that is read.
-fn accept(kind: TermKind, name: [u8; 16], components: Components) -> Reading
+fn accept(kind: TermKind, name: [u8; SLOT], components: Components) -> Reading
     ensures { λ r. ⌜ r ≡ answer 0 kind name components ⌝ }
 {
     let term = Term {
@@ -111,21 +113,15 @@ fn to_capital(b: u8) -> u8
 }
 
 // The slot in capitals.
-pub fn capitals(slot: &[u8]) -> [u8; 16]
-    requires { ⌜ length (now slot) ≡ 16 ⌝ }
+pub fn capitals(slot: &[u8]) -> [u8; SLOT]
+    requires { ⌜ length (now slot) ≡ slotBytes ⌝ }
     ensures { λ r. ⌜ r ≡ map capital (now (slot .entry)) ⌝ }
 {
-    let mut out = [0u8; 16];
+    let mut out = [0u8; SLOT];
     for i in 0..16usize {
         out[i] = to_capital(slot[i]);
     }
     out
-}
-
-fn wide(b: u8) -> u64
-    ensures { λ r. ⌜ (r ≡ b) × (r < 256) ⌝ }
-{
-    b as u64
 }
 
 // A fixed name by its number, which is its bytes, the first lowest.
@@ -159,17 +155,17 @@ fn fixed_name(key: u64) -> Known
 }
 
 // A name's number; 0 for one longer than the fixed names.
-fn key_of(name: &[u8], full: [u8; 16]) -> u64
+fn key_of(name: &[u8], full: [u8; SLOT]) -> u64
     requires { ⌜ Clean (now name) full ⌝ }
     ensures { λ r. ⌜ r ≡ keyOf (now (name .entry)) ⌝ }
 {
     if 4 < name.len() {
         return 0;
     }
-    let a = wide(full[0]);
-    let b = wide(full[1]);
-    let c = wide(full[2]);
-    let d = wide(full[3]);
+    let a = little_endian::wide(full[0]);
+    let b = little_endian::wide(full[1]);
+    let c = little_endian::wide(full[2]);
+    let d = little_endian::wide(full[3]);
     a + 256 * b + 65536 * c + 16777216 * d
 }
 
@@ -211,11 +207,11 @@ fn read_unsigned(s: &[u8]) -> NumberRead
 }
 
 // TX and the number's decimal digits.
-fn txn_name(v: usize) -> [u8; 16]
+fn txn_name(v: usize) -> [u8; SLOT]
     requires { ⌜ v < 256 ⌝ }
     ensures { λ r. ⌜ r ≡ padded (ascii "TX" ++ decimal v) ⌝ }
 {
-    let mut out = [0u8; 16];
+    let mut out = [0u8; SLOT];
     out[0] = b'T';
     out[1] = b'X';
     if v < 10 {
@@ -254,7 +250,7 @@ fn numbered_term(number: NumberRead) -> Reading
 }
 
 // A name that begins with H.
-fn read_harmonic(name: &[u8], full: [u8; 16]) -> Reading
+fn read_harmonic(name: &[u8], full: [u8; SLOT]) -> Reading
     requires { ⌜ Clean (now name) full ⌝ }
     ensures { λ r. ⌜ r ≡ readHarmonic (now (name .entry)) ⌝ }
 {
@@ -268,7 +264,7 @@ fn read_harmonic(name: &[u8], full: [u8; 16]) -> Reading
 }
 
 // A name that is none of the fixed ones.
-fn other_term(name: &[u8], full: [u8; 16]) -> Reading
+fn other_term(name: &[u8], full: [u8; SLOT]) -> Reading
     requires { ⌜ Clean (now name) full ⌝ }
     ensures { λ r. ⌜ r ≡ byKnown (now (name .entry)) Known.Other ⌝ }
 {
@@ -286,7 +282,7 @@ fn other_term(name: &[u8], full: [u8; 16]) -> Reading
 }
 
 // The term that a name in capitals names; full is the name with zeros behind.
-pub fn create_term(name: &[u8], full: [u8; 16]) -> Reading
+pub fn create_term(name: &[u8], full: [u8; SLOT]) -> Reading
     requires { ⌜ Clean (now name) full ⌝ }
     ensures { λ r. ⌜ r ≡ byKnown (now (name .entry)) (find fixedNames (now (name .entry))) ⌝ }
 {

@@ -15,14 +15,14 @@ pub limits-facts : (m n : ℕ) → limits m n ≡ true → (m ≤ 32) × (n ≤ 
 unfolding limits
 limits-facts m n e = (leb-true m 32 (left-of (leb m 32) (leb n 1024) e), leb-true n 1024 (right-of (leb m 32) (leb n 1024) e))
 
-pub record Counted (names fixed dd pier sheets m n : ℕ) : Type 0 where
+pub record CountsMatch (names fixed dd pier sheets m n : ℕ) : Type 0 where
   pub names-count : names ≡ 16 * m
   pub fixed-count : fixed ≡ m
   pub dd-count : dd ≡ n
   pub pier-count : pier ≡ n
   pub sheets-count : sheets ≡ 37 * n
 
-pub counts-facts : (names fixed dd pier sheets m n : ℕ) → counts names fixed dd pier sheets m n ≡ true → Counted names fixed dd pier sheets m n
+pub counts-facts : (names fixed dd pier sheets m n : ℕ) → counts names fixed dd pier sheets m n ≡ true → CountsMatch names fixed dd pier sheets m n
 unfolding counts
 counts-facts names fixed dd pier sheets m n e =
     let a = eqb names (16 * m) in

@@ -1,33 +1,40 @@
 -- What the questions' answer says where all are passed: `Ready`. Assumes nothing.
-use Prim.Native.Nat.{ℕ, _*_, _≤_}
+use Prim.Native.Nat.{ℕ, _*_, _≤_, _<_}
+use native.Mathlib.Omega.{arith}
 use mathlib.Core.Path.{_≡_, refl, sym, _∙_}
 use mathlib.Core.Bool.{Bool, true, false, _&&_, cond}
 use mathlib.Core.List.{List, [], _∷_}
-use borrow.Author.Tests.{leb-true, ltb-true}
+use borrow.Author.Tests.{eqb-true, leb-true, ltb-true}
 use lib.Dec.{leb, ltb, eqb}
 use lib.ListN.{length}
 use Rattle.sequence.specs.Sequence.{every}
 use Rattle.sequence.proofs.Tests.{left-of, right-of}
 use Rattle.terms.specs.Slots.{namesRefusal}
-use Rattle.terms.specs.Questions.{Question, ask, firstNo}
-use Rattle.design.specs.Design.{freeCount}
+use Rattle.terms.specs.Questions.{Question, firstNo}
+use Rattle.design.specs.Design.{listed}
+use Rattle.design.specs.Counted.{Counted}
+use Rattle.design.proofs.Indices.{up-to-length, up-to-below, indices-few, indices-below}
 use Rattle.solver.specs.declared.IterOptions.{IterOptions}
-use Rattle.solver.specs.Call.{FitInputs, Sizes}
-use Rattle.validate.specs.Questions.{limits, counts, room, scratchNeeded, finiteInput, finiteOptions, codesKnown, asked, Ready}
+use Rattle.solver.specs.declared.Sizes.{Sizes}
+use Rattle.solver.specs.Call.{FitInputs}
+use Rattle.validate.specs.Questions.{limits, counts, room, scratchNeeded, finiteInput, finiteOptions, codesKnown, freeCount}
+use Rattle.validate.specs.Questions.{asked, Ready}
 use Rattle.validate.specs.declared.Asked.{Asked}
 use Rattle.validate.specs.declared.Asked.the-variants.{Pass, No}
-use Rattle.validate.proofs.Laws.{limits-facts, counts-facts}
+use Rattle.validate.proofs.InOrder.{all}
+use Rattle.validate.proofs.Laws.{limits-facts, CountsMatch, counts-facts}
 
-one : (b : Bool) (r : Asked) (k f : ℕ) (t : Bool) → Pass f ≡ cond b r (No k) → (Pass f ≡ r → t ≡ true) → (b && t) ≡ true
-one true r k f t h g = g h
-one false r k f t h g = cc
+one : (b : Bool) (r : Asked) (k : ℕ) (t : Bool) → Pass ≡ cond b r (No k) → (Pass ≡ r → t ≡ true) → (b && t) ≡ true
+one true r k t h g = g h
+one false r k t h g = cc
 
-all : (f x : ℕ) (qs : List Question) → Pass f ≡ firstNo No (Pass x) qs → every (λ q. q .yes) qs ≡ true
-all f x [] e = refl
-all f x (q ∷ qs) e = one (q .yes) (firstNo No (Pass x) qs) (q .number) f (every (λ p. p .yes) qs) e (all f x qs)
+all-yes : (qs : List Question) → Pass ≡ firstNo No Pass qs → every (λ q. q .yes) qs ≡ true
+all-yes [] e = refl
+all-yes (q ∷ qs) e = one (q .yes) (firstNo No Pass qs) (q .number) (every (λ p. p .yes) qs) e (all-yes qs)
 
--- of ten questions, the first three and the ninth
-some : (a b c d e f g h i rest : Bool) → (a && (b && (c && (d && (e && (f && (g && (h && (i && rest))))))))) ≡ true → (a ≡ true) × (b ≡ true) × (c ≡ true) × (i ≡ true)
+-- of ten questions, the first three, the seventh and the ninth
+some : (a b c d e f g h i rest : Bool) → (a && (b && (c && (d && (e && (f && (g && (h && (i && rest))))))))) ≡ true
+    → (a ≡ true) × (b ≡ true) × (c ≡ true) × (g ≡ true) × (i ≡ true)
 some a b c d e f g h i rest t =
     let r8 = i && rest in
     let r7 = h && r8 in
@@ -45,7 +52,7 @@ some a b c d e f g h i rest t =
     let t6 = right-of f r6 t5 in
     let t7 = right-of g r7 t6 in
     let t8 = right-of h r8 t7 in
-    (left-of a r1 t, left-of b r2 t1, left-of c r3 t2, left-of i rest t8)
+    (left-of a r1 t, left-of b r2 t1, left-of c r3 t2, left-of g r7 t6, left-of i rest t8)
 
 record Roomy (s : Sizes) (m n : ℕ) : Type 0 where
   coefficients-room : m ≤ s .coefficients
@@ -73,35 +80,48 @@ room-facts s m n e =
       scratch-room = leb-true (scratchNeeded m n) (s .scratch) (right-of (a && b && c && d) f e);
     }
 
-pub ready : (l : FitInputs) (o : IterOptions) (s : Sizes) (free : ℕ) (r : Asked) → r ≡ Pass free → r ≡ asked l o s → Ready l s
+-- what lengths that match, names that are read and one free term say of the call's run
+counted : (l : FitInputs) → (length (l .coefficients) ≤ 32) × (length (l .dh) ≤ 1024)
+    → CountsMatch (length (l .names)) (length (l .fixed)) (length (l .dd)) (length (l .pier)) (length (l .sheets)) (length (l .coefficients)) (length (l .dh))
+    → namesRefusal (l .names) (length (l .coefficients)) ≡ 0 → 0 < freeCount (l .fixed) → Counted (listed l)
+counted l f c read free = record {
+  terms = f .0;
+  names-count = c .names-count;
+  names-read = read;
+  some-free = free;
+  free-few = omega (arith, indices-few (l .fixed), c .fixed-count);
+  free-below = rw (c .fixed-count) at (indices-below (l .fixed));
+  stars = f .1;
+  dd-count = c .dd-count;
+  pier-count = c .pier-count;
+  sheets-count = c .sheets-count;
+  used-few = omega (arith, up-to-length (length (l .dh)));
+  used-below = up-to-below (length (l .dh));
+}
+
+pub ready : (l : FitInputs) (o : IterOptions) (s : Sizes) (r : Asked) → r ≡ Pass → r ≡ asked l o s → Ready l s
 unfolding asked
-ready l o s free r e q =
+ready l o s r e q =
     let m = length (l .coefficients) in
     let n = length (l .dh) in
-    let fc = freeCount (l .fixed) in
+    let free = freeCount (l .fixed) in
     let no = namesRefusal (l .names) m in
     let q1 = limits m n in
     let q2 = counts (length (l .names)) (length (l .fixed)) (length (l .dd)) (length (l .pier)) (length (l .sheets)) m n in
     let q3 = room s m n in
     let q4 = finiteInput l && finiteOptions o in
     let q5 = codesKnown (l .pier) (l .fixed) in
-    let t = all free fc (ask q1 1 ∷ ask q2 2 ∷ ask q3 3 ∷ ask q4 4 ∷ ask q5 5 ∷ ask (leb (o .«max_iter») 1000) 6 ∷ ask (eqb no 0) no ∷ ask (ltb 0 m) 11 ∷ ask (ltb 0 fc) 12 ∷ ask (leb fc n) 13 ∷ []) (sym e ∙ q) in
-    let y = some q1 q2 q3 q4 q5 (leb (o .«max_iter») 1000) (eqb no 0) (ltb 0 m) (ltb 0 fc) (leb fc n && true) t in
-    let f = limits-facts m n (y .0) in
+    let q6 = leb (o .«max_iter») 1000 in
+    let t = all-yes (all l o s) (sym e ∙ q) in
+    let y = some q1 q2 q3 q4 q5 q6 (eqb no 0) (ltb 0 m) (ltb 0 free) (leb free n && true) t in
     let c = counts-facts (length (l .names)) (length (l .fixed)) (length (l .dd)) (length (l .pier)) (length (l .sheets)) m n (y .1) in
     let h = room-facts s m n (y .2) in
     record {
-      terms = f .0;
-      stars = f .1;
-      names-count = c .names-count;
+      counted = counted l (limits-facts m n (y .0)) c (eqb-true no 0 (y .3)) (ltb-true 0 free (y .4));
       fixed-count = c .fixed-count;
-      dd-count = c .dd-count;
-      pier-count = c .pier-count;
-      sheets-count = c .sheets-count;
       coefficients-room = h .coefficients-room;
       change-room = h .change-room;
       sigma-room = h .sigma-room;
       diagnostics-room = h .diagnostics-room;
       scratch-room = h .scratch-room;
-      some-free = ltb-true 0 fc (y .3);
     }

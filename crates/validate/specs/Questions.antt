@@ -1,17 +1,21 @@
 -- The questions that a fit is put, in the order of docs/SCOPE.md 10.2. Definitions only.
-use Prim.Native.Nat.{ℕ, _+_, _*_, _≤_, _<_}
+use Prim.Native.Nat.{ℕ, _+_, _*_, _≤_}
 use mathlib.Core.Path.{_≡_}
 use mathlib.Core.Bool.{Bool, false, _&&_}
 use mathlib.Core.List.{List, [], _∷_, _++_}
 use lib.Dec.{leb, ltb, eqb}
 use lib.ListN.{length}
+use Rattle.limits.specs.Limits.{maxTerms, maxStars, slotBytes, sheetNumbers}
 use Rattle.float.specs.Float.{#0, isFinite}
 use Rattle.sequence.specs.Sequence.{every}
 use Rattle.terms.specs.Slots.{namesRefusal}
 use Rattle.terms.specs.Questions.{Question, ask, firstNo}
-use Rattle.design.specs.Design.{freeCount}
+use Rattle.design.specs.Design.{collectIndices, listed}
+use Rattle.design.specs.Counted.{Counted}
 use Rattle.solver.specs.declared.IterOptions.{IterOptions}
-use Rattle.solver.specs.Call.{FitInputs, Sizes}
+use Rattle.solver.specs.declared.Settings.{Settings}
+use Rattle.solver.specs.declared.Sizes.{Sizes}
+use Rattle.solver.specs.Call.{FitInputs}
 use Rattle.validate.specs.declared.Asked.{Asked}
 use Rattle.validate.specs.declared.Asked.the-variants.{Pass, No}
 
@@ -19,11 +23,11 @@ use Rattle.validate.specs.declared.Asked.the-variants.{Pass, No}
 
 -- 1: at most 32 terms and 1,024 stars
 unfoldable pub limits : ℕ → ℕ → Bool
-limits m n = leb m 32 && leb n 1024
+limits m n = leb m maxTerms && leb n maxStars
 
 -- 2: exactly as many name bytes, flags, declination differences, pier codes and sheet numbers as belong to them
 unfoldable pub counts : ℕ → ℕ → ℕ → ℕ → ℕ → ℕ → ℕ → Bool
-counts names fixed dd pier sheets m n = eqb names (16 * m) && eqb fixed m && eqb dd n && eqb pier n && eqb sheets (37 * n)
+counts names fixed dd pier sheets m n = eqb names (slotBytes * m) && eqb fixed m && eqb dd n && eqb pier n && eqb sheets (sheetNumbers * n)
 
 -- what scratch needs
 unfoldable pub scratchNeeded : ℕ → ℕ → ℕ
@@ -35,10 +39,12 @@ room s m n =
     leb m (s .coefficients) && leb m (s .change) && leb m (s .sigma) && leb (3 * n) (s .diagnostics) && leb (scratchNeeded m n) (s .scratch)
 
 -- 4: every lent float is finite
+unfoldable pub finiteSettings : Settings → Bool
+finiteSettings c = isFinite (c .«sin_lat») && isFinite (c .«cos_lat») && isFinite (c .«fit_tol»)
+
 unfoldable pub finiteInput : FitInputs → Bool
 finiteInput l =
-    every isFinite (l .coefficients) && every isFinite (l .dh) && every isFinite (l .dd) && every isFinite (l .sheets)
-    && isFinite (l .sinLat) && isFinite (l .cosLat) && isFinite (l .fitTol)
+    every isFinite (l .coefficients) && every isFinite (l .dh) && every isFinite (l .dd) && every isFinite (l .sheets) && finiteSettings (l .settings)
 
 unfoldable pub finiteOptions : IterOptions → Bool
 finiteOptions o =
@@ -47,6 +53,10 @@ finiteOptions o =
 -- 5: each pier code 0 to 2, each fixed flag 0 or 1
 unfoldable pub codesKnown : List ℕ → List ℕ → Bool
 codesKnown pier fixed = every (λ c. ltb c 3) pier && every (λ f. ltb f 2) fixed
+
+-- 12 and 13: how many terms are free
+abbrev pub freeCount : List ℕ → ℕ
+freeCount fixed = length (collectIndices fixed)
 
 -- ---- in order
 
@@ -70,7 +80,7 @@ unfoldable pub asked : FitInputs → IterOptions → Sizes → Asked
 asked l o s =
     let m = length (l .coefficients) in
     let n = length (l .dh) in
-    firstNo No (Pass (freeCount (l .fixed)))
+    firstNo No Pass
     (sizesAsked m n (length (l .names)) (length (l .fixed)) (length (l .dd)) (length (l .pier)) (length (l .sheets)) s
     ++ (valuesAsked l o ++ termsAsked (l .names) (l .fixed) m n))
 
@@ -90,16 +100,10 @@ noOptions =
 -- ---- what a fit may count on once its questions are passed
 
 pub record Ready (l : FitInputs) (s : Sizes) : Type 0 where
-  pub terms : length (l .coefficients) ≤ 32
-  pub stars : length (l .dh) ≤ 1024
-  pub names-count : length (l .names) ≡ 16 * length (l .coefficients)
+  pub counted : Counted (listed l)
   pub fixed-count : length (l .fixed) ≡ length (l .coefficients)
-  pub dd-count : length (l .dd) ≡ length (l .dh)
-  pub pier-count : length (l .pier) ≡ length (l .dh)
-  pub sheets-count : length (l .sheets) ≡ 37 * length (l .dh)
   pub coefficients-room : length (l .coefficients) ≤ s .coefficients
   pub change-room : length (l .coefficients) ≤ s .change
   pub sigma-room : length (l .coefficients) ≤ s .sigma
   pub diagnostics-room : 3 * length (l .dh) ≤ s .diagnostics
   pub scratch-room : scratchNeeded (length (l .coefficients)) (length (l .dh)) ≤ s .scratch
-  pub some-free : 0 < freeCount (l .fixed)

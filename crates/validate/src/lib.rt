@@ -2,18 +2,28 @@
 // questions 11 to 13.
 
 ghost use mathlib.Core.Path.{_≡_};
+ghost use mathlib.Core.List.{_++_};
 ghost use Prim.Native.Nat.{_*_, _≤_};
 ghost use lib.Dec.{ltb};
-ghost use lib.ListN.{length};
+ghost use lib.ListN.{length, drop};
+ghost use Rattle.limits.specs.Limits.{maxTerms, maxStars, slotBytes};
 ghost use Rattle.sequence.specs.Sequence.{every};
 ghost use Rattle.terms.specs.Questions.{noOf};
-ghost use Rattle.solver.specs.Call.{inputs, sizes};
-ghost use Rattle.validate.specs.Questions.{limits, counts, scratchNeeded, room, finiteInput, finiteOptions, codesKnown, sizesAsked, valuesAsked, termsAsked, asked, noOptions};
+ghost use Rattle.solver.specs.Call.{FitInputs, inputs};
+ghost use Rattle.design.specs.Design.{upTo, collectIndices};
+ghost use Rattle.validate.specs.Questions.{limits, counts, scratchNeeded, room, finiteSettings, finiteInput, finiteOptions, codesKnown};
+ghost use Rattle.validate.specs.Questions.{freeCount, sizesAsked, valuesAsked, termsAsked, asked, noOptions};
+use limits::MAX_STARS;
+use limits::MAX_TERMS;
+use limits::SHEET;
+use limits::SLOT;
 use solver::IterOptions;
+use solver::Settings;
+use solver::Sizes;
 
-// All questions passed, with the number of free terms, or the number of the first no.
+// All questions passed, or the number of the first no.
 pub enum Asked {
-    Pass(usize),
+    Pass,
     No(u8),
 }
 
@@ -21,10 +31,10 @@ pub enum Asked {
 fn within_limits(m: usize, n: usize) -> bool
     ensures { λ r. ⌜ r ≡ limits m n ⌝ }
 {
-    if m > 32 {
+    if m > MAX_TERMS {
         return false;
     }
-    n <= 1024
+    n <= MAX_STARS
 }
 
 // Question 2.
@@ -37,10 +47,10 @@ fn counts_match(
     m: usize,
     n: usize,
 ) -> bool
-    requires { ⌜ (m ≤ 32) × (n ≤ 1024) ⌝ }
+    requires { ⌜ (m ≤ maxTerms) × (n ≤ maxStars) ⌝ }
     ensures { λ r. ⌜ r ≡ counts names fixed dd pier sheets m n ⌝ }
 {
-    if names != 16 * m {
+    if names != SLOT * m {
         return false;
     }
     if fixed != m {
@@ -52,47 +62,52 @@ fn counts_match(
     if pier != n {
         return false;
     }
-    sheets == 37 * n
+    sheets == SHEET * n
 }
 
 // How many numbers of scratch a fit needs.
 pub fn scratch_needed(m: usize, n: usize) -> usize
-    requires { ⌜ (m ≤ 32) × (n ≤ 1024) ⌝ }
+    requires { ⌜ (m ≤ maxTerms) × (n ≤ maxStars) ⌝ }
     ensures { λ r. ⌜ r ≡ scratchNeeded m n ⌝ }
 {
     (4 * n + 3 * m) * m + 8 * n + 8 * m
 }
 
 // Question 3.
-fn has_room(
-    coefficients: usize,
-    change: usize,
-    sigma: usize,
-    diagnostics: usize,
-    scratch: usize,
-    m: usize,
-    n: usize,
-) -> bool
-    requires { ⌜ (m ≤ 32) × (n ≤ 1024) ⌝ }
-    ensures { λ r. ⌜ r ≡ room (sizes coefficients change sigma diagnostics scratch) m n ⌝ }
+fn has_room(s: Sizes, m: usize, n: usize) -> bool
+    requires { ⌜ (m ≤ maxTerms) × (n ≤ maxStars) ⌝ }
+    ensures { λ r. ⌜ r ≡ room s m n ⌝ }
 {
     let need = scratch_needed(m, n);
-    if coefficients < m {
+    if s.coefficients < m {
         return false;
     }
-    if change < m {
+    if s.change < m {
         return false;
     }
-    if sigma < m {
+    if s.sigma < m {
         return false;
     }
-    if diagnostics < 3 * n {
+    if s.diagnostics < 3 * n {
         return false;
     }
-    need <= scratch
+    need <= s.scratch
 }
 
-// Question 4 of the slices, the latitude and the tolerance.
+// Question 4 of the settings.
+fn finite_settings(s: Settings) -> bool
+    ensures { λ r. ⌜ r ≡ finiteSettings s ⌝ }
+{
+    if !float::is_finite(s.sin_lat) {
+        return false;
+    }
+    if !float::is_finite(s.cos_lat) {
+        return false;
+    }
+    float::is_finite(s.fit_tol)
+}
+
+// Question 4 of the slices and the settings.
 fn finite_input(
     names: &[u8],
     fixed: &[u8],
@@ -101,11 +116,11 @@ fn finite_input(
     dd: &[f64],
     pier: &[u8],
     sheets: &[f64],
-    sin_lat: f64,
-    cos_lat: f64,
-    fit_tol: f64,
+    settings: Settings,
 ) -> bool
-    ensures { λ r. ⌜ r ≡ finiteInput (inputs (now (names .entry)) (now (fixed .entry)) (now (coefficients .entry)) (now (dh .entry)) (now (dd .entry)) (now (pier .entry)) (now (sheets .entry)) «sin_lat» «cos_lat» «fit_tol») ⌝ }
+    ghost { FitInputs }
+    requires { λ l. ⌜ inputs (now names) (now fixed) (now coefficients) (now dh) (now dd) (now pier) (now sheets) settings ≡ l ⌝ }
+    ensures { λ l r. ⌜ r ≡ finiteInput l ⌝ }
 {
     if !sequence::all_finite(coefficients) {
         return false;
@@ -119,13 +134,7 @@ fn finite_input(
     if !sequence::all_finite(sheets) {
         return false;
     }
-    if !float::is_finite(sin_lat) {
-        return false;
-    }
-    if !float::is_finite(cos_lat) {
-        return false;
-    }
-    float::is_finite(fit_tol)
+    finite_settings(settings)
 }
 
 // Question 4 of the options.
@@ -178,13 +187,9 @@ fn sizes_refusal(
     dd: usize,
     pier: usize,
     sheets: usize,
-    out: usize,
-    change: usize,
-    sigma: usize,
-    diagnostics: usize,
-    scratch: usize,
+    room: Sizes,
 ) -> u8
-    ensures { λ r. ⌜ r ≡ noOf (sizesAsked m n names fixed dd pier sheets (sizes out change sigma diagnostics scratch)) ⌝ }
+    ensures { λ r. ⌜ r ≡ noOf (sizesAsked m n names fixed dd pier sheets room) ⌝ }
 {
     if !within_limits(m, n) {
         return 1;
@@ -192,7 +197,7 @@ fn sizes_refusal(
     if !counts_match(names, fixed, dd, pier, sheets, m, n) {
         return 2;
     }
-    if !has_room(out, change, sigma, diagnostics, scratch, m, n) {
+    if !has_room(room, m, n) {
         return 3;
     }
     0
@@ -207,25 +212,14 @@ fn values_refusal(
     dd: &[f64],
     pier: &[u8],
     sheets: &[f64],
-    sin_lat: f64,
-    cos_lat: f64,
-    fit_tol: f64,
+    settings: Settings,
     options: IterOptions,
 ) -> u8
-    ensures { λ r. ⌜ r ≡ noOf (valuesAsked (inputs (now (names .entry)) (now (fixed .entry)) (now (coefficients .entry)) (now (dh .entry)) (now (dd .entry)) (now (pier .entry)) (now (sheets .entry)) «sin_lat» «cos_lat» «fit_tol») options) ⌝ }
+    ghost { FitInputs }
+    requires { λ l. ⌜ inputs (now names) (now fixed) (now coefficients) (now dh) (now dd) (now pier) (now sheets) settings ≡ l ⌝ }
+    ensures { λ l r. ⌜ r ≡ noOf (valuesAsked l options) ⌝ }
 {
-    if !finite_input(
-        names,
-        fixed,
-        coefficients,
-        dh,
-        dd,
-        pier,
-        sheets,
-        sin_lat,
-        cos_lat,
-        fit_tol,
-    ) {
+    if !finite_input(names, fixed, coefficients, dh, dd, pier, sheets, settings) {
         return 4;
     }
     if !finite_options(options) {
@@ -240,9 +234,18 @@ fn values_refusal(
     0
 }
 
+// How many flags are 0.
+fn free_count(fixed: &[u8]) -> usize
+    requires { ⌜ length (now fixed) ≤ maxTerms ⌝ }
+    ensures { λ r. ⌜ r ≡ freeCount (now (fixed .entry)) ⌝ }
+{
+    let mut indices = [0u16; MAX_TERMS];
+    collect_indices(fixed, &mut indices[..])
+}
+
 // Questions 7 to 13, of m terms and n stars.
 fn terms_refusal(names: &[u8], fixed: &[u8], m: usize, n: usize) -> u8
-    requires { ⌜ 16 * m ≤ length (now names) ⌝ }
+    requires { ⌜ (slotBytes * m ≤ length (now names)) × (length (now fixed) ≤ maxTerms) ⌝ }
     ensures { λ r. ⌜ r ≡ noOf (termsAsked (now (names .entry)) (now (fixed .entry)) m n) ⌝ }
 {
     let no = terms::names_refusal(names, m);
@@ -252,7 +255,7 @@ fn terms_refusal(names: &[u8], fixed: &[u8], m: usize, n: usize) -> u8
     if m == 0 {
         return 11;
     }
-    let free = design::free_count(fixed);
+    let free = free_count(fixed);
     if free == 0 {
         return 12;
     }
@@ -271,17 +274,13 @@ pub fn questions(
     dd: &[f64],
     pier: &[u8],
     sheets: &[f64],
-    sin_lat: f64,
-    cos_lat: f64,
-    fit_tol: f64,
+    settings: Settings,
     options: IterOptions,
-    out: usize,
-    change: usize,
-    sigma: usize,
-    diagnostics: usize,
-    scratch: usize,
+    room: Sizes,
 ) -> Asked
-    ensures { λ r. ⌜ r ≡ asked (inputs (now (names .entry)) (now (fixed .entry)) (now (coefficients .entry)) (now (dh .entry)) (now (dd .entry)) (now (pier .entry)) (now (sheets .entry)) «sin_lat» «cos_lat» «fit_tol») options (sizes out change sigma diagnostics scratch) ⌝ }
+    ghost { FitInputs }
+    requires { λ l. ⌜ inputs (now names) (now fixed) (now coefficients) (now dh) (now dd) (now pier) (now sheets) settings ≡ l ⌝ }
+    ensures { λ l r. ⌜ r ≡ asked l options room ⌝ }
 {
     let m = coefficients.len();
     let n = dh.len();
@@ -293,11 +292,7 @@ pub fn questions(
         dd.len(),
         pier.len(),
         sheets.len(),
-        out,
-        change,
-        sigma,
-        diagnostics,
-        scratch,
+        room,
     );
     if no_size != 0 {
         return Asked::No(no_size);
@@ -310,9 +305,7 @@ pub fn questions(
         dd,
         pier,
         sheets,
-        sin_lat,
-        cos_lat,
-        fit_tol,
+        settings,
         options,
     );
     if no_value != 0 {
@@ -322,7 +315,33 @@ pub fn questions(
     if no_term != 0 {
         return Asked::No(no_term);
     }
-    Asked::Pass(design::free_count(fixed))
+    Asked::Pass
+}
+
+// The indices of the flags that are 0, from the front of `out` on; and how many they are.
+pub fn collect_indices(flags: &[u8], out: &mut [u16]) -> usize
+    requires { ⌜ (length (now flags) ≤ maxStars) × (length (now flags) ≤ length (now out)) ⌝ }
+    ensures count { λ k. ⌜ k ≡ length (collectIndices (now (flags .entry))) ⌝ }
+    ensures listed { λ k. ⌜ now (out .exit) ≡ collectIndices (now (flags .entry)) ++ drop k (now (out .entry)) ⌝ }
+{
+    let mut k = 0usize;
+    for i in 0..flags.len() {
+        if flags[i] == 0 {
+            out[k] = i as u16;
+            k += 1;
+        }
+    }
+    k
+}
+
+// 0 to n - 1, from the front of `out` on: every star counts.
+pub fn all_indices(n: usize, out: &mut [u16])
+    requires { ⌜ (n ≤ maxStars) × (n ≤ length (now out)) ⌝ }
+    ensures { λ _. ⌜ now (out .exit) ≡ upTo n ++ drop n (now (out .entry)) ⌝ }
+{
+    for i in 0..n {
+        out[i] = i as u16;
+    }
 }
 
 // What the single step puts in the place of the options that it doesn't take.

@@ -1,88 +1,50 @@
--- `design::build_sky_residuals` meets its contract. The invariant: the rows of the first i stars are filled. Assumes nothing.
-use Prim.Native.Nat.{ℕ, _≤_, _-_, _*_}
-use mathlib.Core.Path.{_≡_, refl}
-use mathlib.Core.List.{List, _++_}
-use lib.ListN.{length, drop, length-set}
-use lib.Ieee.{Float}
-use Rattle.float.specs.Float.{_⊗_}
-use Rattle.sequence.specs.Sequence.{at}
-use Rattle.design.specs.Design.{sheetAt, cosDec}
-use Rattle.design.specs.Filled.{rowsTo, skyDifferencesTo}
-use Rattle.design.proofs.Rows.{rows-none, rows-step, rows-end}
+-- `design::build_sky_residuals` meets its contract. The invariant: the rows of the first r stars are filled. Assumes nothing.
+use Prim.Native.Nat.{_≤_, _<_, _-_, _*_}
+use mathlib.Core.Path.{_≡_, refl, _∙_}
+use mathlib.Core.List.{[]}
+use lib.ListN.{length, length-set}
+use lib.Ieee.{nan}
 use native.Mathlib.Omega.{arith}
+use Rattle.design.specs.Design.{starAt, starsAt, skyDifferences}
+use Rattle.sequence.proofs.Partway.{Partway, start, pair, end}
+use Rattle.design.proofs.Rows.{count, hour, dec}
 use Rattle.design.proofs.build_sky_residuals.Statement.{statement}
 use Rattle.design.proofs.build_sky_residuals.Tie as tie
 
--- the hour-angle row of star i
-abbrev hour : List Float → List Float → ℕ → Float
-hour dh sheets i = at dh i ⊗ cosDec (sheetAt sheets i)
-
 abbrev Inv-loop : tie.InvT-loop
-Inv-loop dh dd sheets b₀ i₀ i-end b i = (i-end ≡ length dh) × (i ≤ i-end) × (length b ≡ length b₀) × (b ≡ rowsTo i (hour dh sheets) (at dd) ++ drop (2 * i) b₀)
+Inv-loop dh dd sheets used b₀ r₀ r-end b r =
+    (r-end ≡ length used) × (r ≤ r-end) × Partway b₀ (skyDifferences (starsAt dh dd [] sheets used)) (2 * r) b
 
 abbrev μ-loop : tie.MeasureT-loop
-μ-loop dh dd sheets b₀ i₀ i-end b i = i-end - i
+μ-loop dh dd sheets used b₀ r₀ r-end b r = r-end - r
 
 loop-holds : tie.Need-loop-holds Inv-loop μ-loop
-loop-holds c = (refl, omega arith, refl, rows-none _ _ _)
+unfolding skyDifferences
+loop-holds c =
+    let a = c .before .before .before .before .before .args in
+    (refl, omega arith, start _ _ (count (starAt (a .dh .now) (a .dd .now) [] (a .sheets .now)) _ _ (a .used .now) ∙ omega arith))
 
-cos-dec-requires : tie.Need-cos-dec-requires Inv-loop μ-loop
-cos-dec-requires c κs = omega arith
-
-mul-b : tie.Need-mul-b Inv-loop μ-loop
-mul-b c = omega arith
-
-shared-slice-read-b : tie.Need-shared-slice-read-b Inv-loop μ-loop
-shared-slice-read-b c = omega arith
-
-mul-b-2 : tie.Need-mul-b-2 Inv-loop μ-loop
-mul-b-2 c = omega arith
-
-mul-b-3 : tie.Need-mul-b-3 Inv-loop μ-loop
-mul-b-3 c = omega arith
-
-slice-write-b : tie.Need-slice-write-b Inv-loop μ-loop
-slice-write-b c = omega arith
-
-mul-b-4 : tie.Need-mul-b-4 Inv-loop μ-loop
-mul-b-4 c = omega arith
-
-shared-slice-read-b-2 : tie.Need-shared-slice-read-b-2 Inv-loop μ-loop
-shared-slice-read-b-2 c = omega arith
-
-mul-b-5 : tie.Need-mul-b-5 Inv-loop μ-loop
-mul-b-5 c = omega arith
-
-add-b : tie.Need-add-b Inv-loop μ-loop
-add-b c = omega arith
-
-mul-b-6 : tie.Need-mul-b-6 Inv-loop μ-loop
-mul-b-6 c = omega arith
-
-slice-write-b-2 : tie.Need-slice-write-b-2 Inv-loop μ-loop
-slice-write-b-2 c = simp length-set (omega arith)
-
-add-i : tie.Need-add-i Inv-loop μ-loop
-add-i c = omega arith
-
-loop-less : tie.Need-loop-less Inv-loop μ-loop
-loop-less c = omega arith
+-- the index lies on the page
+below : (c : tie.After-index Inv-loop μ-loop)
+    → c .index .result < length (c .before .before .before .before .before .before .before .before .before .args .dh .now)
+below c =
+    let u = c .before .before .before in
+    rw (c .index .ensures) (u .before .before .before .before .before .before .pre .2 (u .loop .r) (omega arith))
 
 loop-again : tie.Need-loop-again Inv-loop μ-loop
+unfolding skyDifferences
 loop-again c =
-    let u = c .before .before .before .before .loop in
-    let a = c .before .before .before .before .before .before .before .before .before .args in
-    (u .inv .0, omega arith, simp length-set (u .inv .2), rows-step (hour (a .dh .now) (a .sheets .now)) (at (a .dd .now)) (u .i) _ (u .b) _ _ (omega arith) (u .inv .3) (rw (c .before .before .cos-dec .ensures) refl) refl)
-
-same-length : tie.Need-same-length Inv-loop μ-loop
-same-length c = omega arith
-
-returns : tie.Need-returns Inv-loop μ-loop
-unfolding skyDifferencesTo
-returns c =
-    let u = c .before .loop in
-    let a = c .before .before .before .before .before .before .args in
-    rows-end (hour (a .dh .now) (a .sheets .now)) (at (a .dd .now)) (u .i) _ _ (u .b) (omega arith) (omega arith) (u .inv .3)
+    let u = c .before .before .before .before .before .before in
+    let a = u .before .before .before .before .before .before .args in
+    let s = starAt (a .dh .now) (a .dd .now) [] (a .sheets .now) in
+    let n = a .used .now in
+    let i = c .before .before .before .index .ensures in
+    let q = c .before .before .cos-dec .ensures in (
+      refl,
+      omega arith,
+      pair _ _ (u .loop .r) (u .loop .b) _ _ nan (omega arith) (u .loop .inv .2)
+          (rw (q, i) (hour s _ _ n (u .loop .r) (omega arith))) (rw i (dec s _ _ n (u .loop .r) (omega arith))),
+    )
 
 pub build-sky-residuals-spec : {M : Type 1} → statement M
 build-sky-residuals-spec =
@@ -91,20 +53,23 @@ build-sky-residuals-spec =
     Inv-loop
     μ-loop
     loop-holds
-    cos-dec-requires
-    mul-b
-    shared-slice-read-b
-    mul-b-2
-    mul-b-3
-    slice-write-b
-    mul-b-4
-    shared-slice-read-b-2
-    mul-b-5
-    add-b
-    mul-b-6
-    slice-write-b-2
-    add-i
-    loop-less
+    (λ c. omega arith)
+    (λ c. omega arith)
+    (λ c κs. omega arith)
+    (λ c κs. omega (arith, below c))
+    (λ c. omega (arith, below (c .before)))
+    (λ c. omega (arith, below (c .before .before)))
+    (λ c. omega arith)
+    (λ c. omega arith)
+    (λ c. omega arith)
+    (λ c. omega (arith, below (c .before .before)))
+    (λ c. omega (arith, below (c .before .before .before)))
+    (λ c. omega arith)
+    (λ c. omega arith)
+    (λ c. omega arith)
+    (λ c. simp length-set (omega arith))
+    (λ c. omega arith)
+    (λ c. omega arith)
     loop-again
-    same-length
-    returns)
+    (λ c. omega arith)
+    (λ c. end _ _ _ _ (omega arith) (c .before .loop .inv .2)))

@@ -1,79 +1,49 @@
--- `design::scale_ha_rows` meets its contract. The invariant: the rows of the first i stars are scaled. Assumes nothing.
-use Prim.Native.Nat.{ℕ, _≤_, _+_, _-_, _*_}
-use mathlib.Core.Path.{_≡_, refl}
-use mathlib.Core.List.{List, _++_}
-use native.Mathlib.Nat.{le-refl}
-use lib.ListN.{length, drop, length-set}
-use lib.Ieee.{Float}
-use Rattle.float.specs.Float.{_⊗_}
-use Rattle.sequence.specs.Sequence.{at}
-use Rattle.design.specs.Design.{sheetAt, cosDec}
-use Rattle.design.specs.Filled.{rowsTo, skyRows}
-use Rattle.design.proofs.Rows.{rows-none, rows-read, rows-first, rows-end}
+-- `design::scale_ha_rows` meets its contract. The invariant: the rows of the first r stars are filled. Assumes nothing.
+use Prim.Native.Nat.{_≤_, _-_, _*_}
+use mathlib.Core.Path.{_≡_, refl, sym}
+use mathlib.Core.List.{[]}
+use lib.ListN.{length, length-map}
+use lib.Ieee.{nan}
 use native.Mathlib.Omega.{arith}
+use Rattle.design.specs.Design.{starAt, sightsAt, skyRows}
+use Rattle.sequence.proofs.Partway.{Partway, start, first, read, end}
+use Rattle.design.proofs.Rows.{sky-rows-length, sky-hour, sky-dec}
 use Rattle.design.proofs.scale_ha_rows.Statement.{statement}
 use Rattle.design.proofs.scale_ha_rows.Tie as tie
 
--- the two rows of star i
-abbrev hour : List Float → List Float → ℕ → Float
-hour sheets b i = at b (2 * i) ⊗ cosDec (sheetAt sheets i)
-
-abbrev dec : List Float → ℕ → Float
-dec b i = at b (2 * i + 1)
-
 abbrev Inv-loop : tie.InvT-loop
-Inv-loop sheets n b₀ i₀ b i = (i ≤ n) × (length b ≡ length b₀) × (b ≡ rowsTo i (hour sheets b₀) (dec b₀) ++ drop (2 * i) b₀)
+Inv-loop sheets n used b₀ r₀ r-end b r =
+    (r-end ≡ length used) × (r ≤ r-end) × Partway b₀ (skyRows (sightsAt [] sheets used) b₀) (2 * r) b
 
 abbrev μ-loop : tie.MeasureT-loop
-μ-loop sheets n b₀ i₀ b i = n - i
+μ-loop sheets n used b₀ r₀ r-end b r = r-end - r
 
 loop-holds : tie.Need-loop-holds Inv-loop μ-loop
-loop-holds c = (omega arith, refl, rows-none _ _ _)
+loop-holds c =
+    let a = c .before .before .before .args in
+    (refl, omega arith, start _ _ (sky-rows-length _ (a .b .now) (simp length-map (omega arith))))
 
 cos-dec-requires : tie.Need-cos-dec-requires Inv-loop μ-loop
-cos-dec-requires c κs = omega arith
-
-mul-b : tie.Need-mul-b Inv-loop μ-loop
-mul-b c = omega arith
-
-mul-b-2 : tie.Need-mul-b-2 Inv-loop μ-loop
-mul-b-2 c = omega arith
-
-slice-read-b : tie.Need-slice-read-b Inv-loop μ-loop
-slice-read-b c = omega arith
-
-mul-b-3 : tie.Need-mul-b-3 Inv-loop μ-loop
-mul-b-3 c = omega arith
-
-mul-b-4 : tie.Need-mul-b-4 Inv-loop μ-loop
-mul-b-4 c = omega arith
-
-slice-write-b : tie.Need-slice-write-b Inv-loop μ-loop
-slice-write-b c = omega arith
-
-add-i : tie.Need-add-i Inv-loop μ-loop
-add-i c = omega arith
-
-loop-less : tie.Need-loop-less Inv-loop μ-loop
-loop-less c = omega arith
+cos-dec-requires c κs =
+    let p = c .before .before .before in
+    omega (arith, p .before .before .before .before .pre .1 (p .loop .r) (omega arith))
 
 loop-again : tie.Need-loop-again Inv-loop μ-loop
 loop-again c =
-    let u = c .before .before .before .loop in
-    let a = c .before .before .before .before .before .before .args in
+    let u = c .before .before .before .before .before in
+    let a = u .before .before .before .before .args in
+    let s = starAt [] [] [] (a .sheets .now) in
+    let n = a .used .now in
     let b = a .b .now in
-    let s = a .sheets .now in
-    (omega arith, simp length-set (u .inv .1), rows-first (hour s b) (dec b) (u .i) b (u .b) _ (omega arith) (u .inv .2) (rw (rows-read (hour s b) (dec b) (u .i) (2 * u .i) b (u .b) (le-refl (2 * u .i)) (u .inv .2), c .before .cos-dec .ensures) refl) refl)
-
-same-length : tie.Need-same-length Inv-loop μ-loop
-same-length c = omega arith
-
-returns : tie.Need-returns Inv-loop μ-loop
-unfolding skyRows
-returns c =
-    let u = c .before .loop in
-    let a = c .before .before .before .before .args in
-    rows-end (hour (a .sheets .now) (a .b .now)) (dec (a .b .now)) (u .i) (a .n) (a .b .now) (u .b) (omega arith) (omega arith) (u .inv .2)
+    let i = c .before .before .index .ensures in
+    let q = c .before .cos-dec .ensures in
+    let k = read b _ (2 * u .loop .r) (2 * u .loop .r) (u .loop .b) nan (omega arith) (omega arith) (u .loop .inv .2) in (
+      refl,
+      omega arith,
+      first b _ (u .loop .r) (u .loop .b) _ nan (omega arith) (u .loop .inv .2)
+          (rw (k, q, i) (sym (sky-hour s n b (u .loop .r) (omega arith) (omega arith))))
+          (sym (sky-dec s n b (u .loop .r) (omega arith) (omega arith))),
+    )
 
 pub scale-ha-rows-spec : {M : Type 1} → statement M
 scale-ha-rows-spec =
@@ -82,15 +52,18 @@ scale-ha-rows-spec =
     Inv-loop
     μ-loop
     loop-holds
+    (λ c. omega arith)
+    (λ c. omega arith)
+    (λ c κs. omega arith)
     cos-dec-requires
-    mul-b
-    mul-b-2
-    slice-read-b
-    mul-b-3
-    mul-b-4
-    slice-write-b
-    add-i
-    loop-less
+    (λ c. omega arith)
+    (λ c. omega arith)
+    (λ c. omega arith)
+    (λ c. omega arith)
+    (λ c. omega arith)
+    (λ c. omega arith)
+    (λ c. omega arith)
+    (λ c. omega arith)
     loop-again
-    same-length
-    returns)
+    (λ c. omega arith)
+    (λ c. end _ _ _ _ (omega arith) (c .before .loop .inv .2)))

@@ -1,115 +1,56 @@
--- `design::subtract_from_differences` meets its contract. The invariant: the rows of the first i stars are subtracted. Assumes nothing.
-use Prim.Native.Nat.{ℕ, _≤_, _+_, _-_, _*_}
+-- `design::subtract_from_differences` meets its contract. The invariant: the rows of the first r stars are subtracted. Assumes nothing.
+use Prim.Native.Nat.{_≤_, _<_, _+_, _-_, _*_}
 use mathlib.Core.Path.{_≡_, refl, _∙_}
-use mathlib.Core.List.{List, _++_}
-use lib.ListN.{length, drop, length-set}
-use lib.Ieee.{Float, binary64, sub}
-use Rattle.float.specs.Float.{_⊖_}
-use Rattle.sequence.specs.Sequence.{at}
-use Rattle.design.specs.Filled.{rowsTo, differencesTo}
-use Rattle.design.proofs.Rows.{rows-none, rows-read, rows-step, rows-end, rows-zip}
+use mathlib.Core.List.{[], zipWith}
+use lib.ListN.{length, length-set}
+use lib.Ieee.{nan, binary64, sub}
 use native.Mathlib.Omega.{arith}
+use Rattle.sequence.proofs.Parts.{length-zip}
+use Rattle.sequence.proofs.Partway.{Partway, start, pair, read, end}
+use Rattle.design.specs.Design.{starAt, starsAt, differences}
+use Rattle.design.proofs.Rows.{count, zip-hour, zip-dec}
 use Rattle.design.proofs.subtract_from_differences.Statement.{statement}
 use Rattle.design.proofs.subtract_from_differences.Tie as tie
 
--- the two rows of star i
-abbrev hour : List Float → List Float → ℕ → Float
-hour dh b i = at dh i ⊖ at b (2 * i)
-
-abbrev dec : List Float → List Float → ℕ → Float
-dec dd b i = at dd i ⊖ at b (2 * i + 1)
-
 abbrev Inv-loop : tie.InvT-loop
-Inv-loop dh dd b₀ i₀ i-end b i = (i-end ≡ length dh) × (i ≤ i-end) × (length b ≡ length b₀) × (b ≡ rowsTo i (hour dh b₀) (dec dd b₀) ++ drop (2 * i) b₀)
+Inv-loop dh dd used b₀ r₀ r-end b r =
+    (r-end ≡ length used) × (r ≤ r-end) × Partway b₀ (zipWith (sub binary64) (differences (starsAt dh dd [] [] used)) b₀) (2 * r) b
 
 abbrev μ-loop : tie.MeasureT-loop
-μ-loop dh dd b₀ i₀ i-end b i = i-end - i
+μ-loop dh dd used b₀ r₀ r-end b r = r-end - r
 
 loop-holds : tie.Need-loop-holds Inv-loop μ-loop
-loop-holds c = (refl, omega arith, refl, rows-none _ _ _)
+unfolding differences
+loop-holds c =
+    let a = c .before .before .before .before .args in
+    let n = count (starAt (a .dh .now) (a .dd .now) [] []) _ _ (a .used .now) in
+    (refl, omega arith, start _ _ (length-zip (sub binary64) _ _ (n ∙ omega arith) ∙ n ∙ omega arith))
 
-mul-h : tie.Need-mul-h Inv-loop μ-loop
-mul-h c = omega arith
-
-shared-slice-read-h : tie.Need-shared-slice-read-h Inv-loop μ-loop
-shared-slice-read-h c = omega arith
-
-mul-h-2 : tie.Need-mul-h-2 Inv-loop μ-loop
-mul-h-2 c = omega arith
-
-mul-h-3 : tie.Need-mul-h-3 Inv-loop μ-loop
-mul-h-3 c = omega arith
-
-slice-read-h : tie.Need-slice-read-h Inv-loop μ-loop
-slice-read-h c = omega arith
-
-mul-d : tie.Need-mul-d Inv-loop μ-loop
-mul-d c = omega arith
-
-shared-slice-read-d : tie.Need-shared-slice-read-d Inv-loop μ-loop
-shared-slice-read-d c = omega arith
-
-mul-d-2 : tie.Need-mul-d-2 Inv-loop μ-loop
-mul-d-2 c = omega arith
-
-add-d : tie.Need-add-d Inv-loop μ-loop
-add-d c = omega arith
-
-mul-d-3 : tie.Need-mul-d-3 Inv-loop μ-loop
-mul-d-3 c = omega arith
-
-slice-read-d : tie.Need-slice-read-d Inv-loop μ-loop
-slice-read-d c = omega arith
-
-mul-b : tie.Need-mul-b Inv-loop μ-loop
-mul-b c = omega arith
-
-mul-b-2 : tie.Need-mul-b-2 Inv-loop μ-loop
-mul-b-2 c = omega arith
-
-slice-write-b : tie.Need-slice-write-b Inv-loop μ-loop
-slice-write-b c = omega arith
-
-mul-b-3 : tie.Need-mul-b-3 Inv-loop μ-loop
-mul-b-3 c = omega arith
-
-add-b : tie.Need-add-b Inv-loop μ-loop
-add-b c = omega arith
-
-mul-b-4 : tie.Need-mul-b-4 Inv-loop μ-loop
-mul-b-4 c = omega arith
-
-slice-write-b-2 : tie.Need-slice-write-b-2 Inv-loop μ-loop
-slice-write-b-2 c = simp length-set (omega arith)
-
-add-i : tie.Need-add-i Inv-loop μ-loop
-add-i c = omega arith
-
-loop-less : tie.Need-loop-less Inv-loop μ-loop
-loop-less c = omega arith
+-- the index lies on the page
+below : (c : tie.After-index Inv-loop μ-loop)
+    → c .index .result < length (c .before .before .before .before .before .before .before .before .args .dh .now)
+below c =
+    let u = c .before .before .before in
+    rw (c .index .ensures) (u .before .before .before .before .before .pre .1 (u .loop .r) (omega arith))
 
 loop-again : tie.Need-loop-again Inv-loop μ-loop
+unfolding differences
 loop-again c =
-    let u = c .before .before .before .before .before .loop in
-    let a = c .before .before .before .before .before .before .args in
+    let u = c .before .before .before .before .before .before .before in
+    let a = u .before .before .before .before .before .args in
+    let s = starAt (a .dh .now) (a .dd .now) [] [] in
+    let n = a .used .now in
     let b = a .b .now in
-    let f = hour (a .dh .now) b in
-    let g = dec (a .dd .now) b in
-    let h = rows-read f g (u .i) (2 * u .i) b (u .b) (omega arith) (u .inv .3) in
-    let d = rows-read f g (u .i) (2 * u .i + 1) b (u .b) (omega arith) (u .inv .3) in
-    (u .inv .0, omega arith, simp length-set (u .inv .2), rows-step f g (u .i) b (u .b) _ _ (omega arith) (u .inv .3) (rw h refl) (rw d refl))
-
-same-length : tie.Need-same-length Inv-loop μ-loop
-same-length c = omega arith
-
-returns : tie.Need-returns Inv-loop μ-loop
-unfolding differencesTo
-returns c =
-    let u = c .before .loop in
-    let a = c .before .before .args in
-    let b = a .b .now in
-    rows-end (hour (a .dh .now) b) (dec (a .dd .now) b) (u .i) (length (a .dh .now)) b (u .b) (omega arith) (omega arith) (u .inv .3)
-    ∙ rows-zip (sub binary64) (at (a .dh .now)) (at (a .dd .now)) (length (a .dh .now)) b (omega arith)
+    let r = u .loop .r in
+    let i = c .before .before .before .before .index .ensures in
+    let h = read b _ (2 * r) (2 * r) (u .loop .b) nan (omega arith) (omega arith) (u .loop .inv .2) in
+    let d = read b _ (2 * r) (2 * r + 1) (u .loop .b) nan (omega arith) (omega arith) (u .loop .inv .2) in (
+      refl,
+      omega arith,
+      pair b _ r (u .loop .b) _ _ nan (omega arith) (u .loop .inv .2)
+          (rw (h, i) (zip-hour s _ _ (sub binary64) n b r (omega arith) (omega arith)))
+          (rw (d, i) (zip-dec s _ _ (sub binary64) n b r (omega arith) (omega arith))),
+    )
 
 pub subtract-from-differences-spec : {M : Type 1} → statement M
 subtract-from-differences-spec =
@@ -118,26 +59,29 @@ subtract-from-differences-spec =
     Inv-loop
     μ-loop
     loop-holds
-    mul-h
-    shared-slice-read-h
-    mul-h-2
-    mul-h-3
-    slice-read-h
-    mul-d
-    shared-slice-read-d
-    mul-d-2
-    add-d
-    mul-d-3
-    slice-read-d
-    mul-b
-    mul-b-2
-    slice-write-b
-    mul-b-3
-    add-b
-    mul-b-4
-    slice-write-b-2
-    add-i
-    loop-less
+    (λ c. omega arith)
+    (λ c. omega arith)
+    (λ c κs. omega arith)
+    (λ c. omega (arith, below c))
+    (λ c. omega (arith, below (c .before)))
+    (λ c. omega arith)
+    (λ c. omega arith)
+    (λ c. omega arith)
+    (λ c. omega (arith, below (c .before .before)))
+    (λ c. omega (arith, below (c .before .before .before)))
+    (λ c. omega arith)
+    (λ c. omega arith)
+    (λ c. omega arith)
+    (λ c. omega arith)
+    (λ c. omega arith)
+    (λ c. omega arith)
+    (λ c. omega arith)
+    (λ c. omega arith)
+    (λ c. omega arith)
+    (λ c. omega arith)
+    (λ c. simp length-set (omega arith))
+    (λ c. omega arith)
+    (λ c. omega arith)
     loop-again
-    same-length
-    returns)
+    (λ c. omega arith)
+    (λ c. end _ _ _ _ (omega arith) (c .before .loop .inv .2)))

@@ -5,12 +5,6 @@ use Rattle.design.specs.Design.{weighed}
 use Rattle.design.proofs.weighed.Statement.{statement}
 use Rattle.design.proofs.weighed.Tie as tie
 
-abs-requires : tie.Need-abs-requires
-abs-requires c κs = search needs
-
-sqrt-requires : tie.Need-sqrt-requires
-sqrt-requires c κs = search needs
-
 returns : tie.Need-returns
 unfolding weighed
 returns c = rw (← c .before .before .abs .ensures, c .before .if1 .taken, c .sqrt .ensures) refl
@@ -20,4 +14,4 @@ unfolding weighed
 returns-2 c = rw (← c .before .abs .ensures, c .if1 .left) refl
 
 pub weighed-spec : {M : Type 1} → statement M
-weighed-spec = tie.close (tie.spec abs-requires sqrt-requires returns returns-2)
+weighed-spec = tie.close (tie.spec (λ c κs. search needs) (λ c κs. search needs) returns returns-2)

@@ -18,12 +18,6 @@ loop-holds : tie.Need-loop-holds Inv-loop μ-loop
 unfolding power
 loop-holds c = (omega arith, refl)
 
-add-i : tie.Need-add-i Inv-loop μ-loop
-add-i c = omega arith
-
-loop-less : tie.Need-loop-less Inv-loop μ-loop
-loop-less c = omega arith
-
 loop-again : tie.Need-loop-again Inv-loop μ-loop
 unfolding power
 loop-again c = (omega arith, rw (add-one, c .before .loop .inv .1))
@@ -32,4 +26,4 @@ returns : tie.Need-returns Inv-loop μ-loop
 returns c = c .before .loop .inv .1 ∙ ap (power (c .before .before .args .x)) (le-antisymm (c .before .loop .inv .0) (omega arith))
 
 pub pow-spec : {M : Type 1} → statement M
-pow-spec = tie.close (tie.spec Inv-loop μ-loop loop-holds add-i loop-less loop-again returns)
+pow-spec = tie.close (tie.spec Inv-loop μ-loop loop-holds (λ c. omega arith) (λ c. omega arith) loop-again returns)

@@ -9,18 +9,9 @@ use borrow.Author.Needs.{needs}
 use Rattle.equatorial.proofs.tx.Statement.{statement}
 use Rattle.equatorial.proofs.tx.Tie as tie
 
-sin-altitude-requires : tie.Need-sin-altitude-requires
-sin-altitude-requires c κs = search needs
-
-abs-requires : tie.Need-abs-requires
-abs-requires c κs = search needs
-
 returns : tie.Need-returns
 returns c =
     rw (small-is (c .before .before .before .args .p) _ (c .before .before .sin-altitude .ensures) _ _ (c .before .abs .ensures) (c .if1 .taken))
-
-flexure-requires : tie.Need-flexure-requires
-flexure-requires c κs = search needs
 
 returns-2 : tie.Need-returns-2
 returns-2 c =
@@ -34,4 +25,4 @@ returns-2 c =
 
 pub tx-spec : {M : Type 1} → statement M
 tx-spec =
-    tie.close (tie.spec sin-altitude-requires abs-requires returns flexure-requires returns-2)
+    tie.close (tie.spec (λ c κs. search needs) (λ c κs. search needs) returns (λ c κs. search needs) returns-2)

@@ -6,30 +6,9 @@ use borrow.Author.Needs.{needs}
 use Rattle.equatorial.proofs.txn.Statement.{statement}
 use Rattle.equatorial.proofs.txn.Tie as tie
 
-sin-altitude-requires : tie.Need-sin-altitude-requires
-sin-altitude-requires c κs = search needs
-
-abs-requires : tie.Need-abs-requires
-abs-requires c κs = search needs
-
 returns : tie.Need-returns
 returns c =
     rw (small-is (c .before .before .before .args .p) _ (c .before .before .sin-altitude .ensures) _ _ (c .before .abs .ensures) (c .if1 .taken))
-
-at-least-zero-requires : tie.Need-at-least-zero-requires
-at-least-zero-requires c κs = search needs
-
-sqrt-requires : tie.Need-sqrt-requires
-sqrt-requires c κs = search needs
-
-less-one-requires : tie.Need-less-one-requires
-less-one-requires c κs = search needs
-
-pow-requires : tie.Need-pow-requires
-pow-requires c κs = search needs
-
-flexure-requires : tie.Need-flexure-requires
-flexure-requires c κs = search needs
 
 returns-2 : tie.Need-returns-2
 returns-2 c =
@@ -54,12 +33,12 @@ pub txn-spec : {M : Type 1} → statement M
 txn-spec =
     tie.close
     (tie.spec
-    sin-altitude-requires
-    abs-requires
+    (λ c κs. search needs)
+    (λ c κs. search needs)
     returns
-    at-least-zero-requires
-    sqrt-requires
-    less-one-requires
-    pow-requires
-    flexure-requires
+    (λ c κs. search needs)
+    (λ c κs. search needs)
+    (λ c κs. search needs)
+    (λ c κs. search needs)
+    (λ c κs. search needs)
     returns-2)

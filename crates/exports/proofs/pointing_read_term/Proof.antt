@@ -6,14 +6,8 @@ use Rattle.exports.proofs.Few.{few}
 use Rattle.exports.proofs.pointing_read_term.Statement.{statement}
 use Rattle.exports.proofs.pointing_read_term.Tie as tie
 
-read-term-requires : tie.Need-read-term-requires
-read-term-requires c κs = search needs
-
-term-answer-requires : tie.Need-term-answer-requires
-term-answer-requires c κs = rw (c .read-term .ensures) (few _)
-
 returns : tie.Need-returns
 returns c = c .term-answer .ensures ∙ ap termAnswer (c .before .read-term .ensures)
 
 pub pointing-read-term-spec : {M : Type 1} → statement M
-pointing-read-term-spec = tie.close (tie.spec read-term-requires term-answer-requires returns)
+pointing-read-term-spec = tie.close (tie.spec (λ c κs. search needs) (λ c κs. rw (c .read-term .ensures) (few _)) returns)

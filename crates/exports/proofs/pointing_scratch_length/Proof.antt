@@ -14,13 +14,10 @@ returns-2 : tie.Need-returns-2
 unfolding scratchLength limits
 returns-2 c = rw (le-leb _ 32 (c .before .if1 .left), lt-leb _ 1024 (c .if2 .taken))
 
-scratch-needed-requires : tie.Need-scratch-needed-requires
-scratch-needed-requires c κs = search needs
-
 returns-3 : tie.Need-returns-3
 unfolding scratchLength limits
 returns-3 c = rw (le-leb _ 32 (c .before .before .if1 .left), le-leb _ 1024 (c .before .if2 .left), c .scratch-needed .ensures)
 
 pub pointing-scratch-length-spec : {M : Type 1} → statement M
 pointing-scratch-length-spec =
-    tie.close (tie.spec returns returns-2 scratch-needed-requires returns-3)
+    tie.close (tie.spec returns returns-2 (λ c κs. search needs) returns-3)

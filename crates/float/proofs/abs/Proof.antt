@@ -44,9 +44,6 @@ above (fin s zero e) h k = absurd (true≢false k)
 above (fin true (suc m) e) h k = absurd (true≢false h)
 above (fin false (suc m) e) h k = refl
 
-returns : tie.Need-returns
-returns c = below _ (sym (lt-zero _) ∙ c .if1 .taken)
-
 returns-2 : tie.Need-returns-2
 returns-2 c = at-zero _ (subst T (sym (c .before .before .good .0 .1)) tt) (sym (eq-zero _) ∙ c .if2 .taken)
 
@@ -54,4 +51,4 @@ returns-3 : tie.Need-returns-3
 returns-3 c = above _ (sym (lt-zero _) ∙ c .before .if1 .left) (sym (eq-zero _) ∙ c .if2 .left)
 
 pub abs-spec : {M : Type 1} → statement M
-abs-spec = tie.close (tie.spec returns returns-2 returns-3)
+abs-spec = tie.close (tie.spec (λ c. below _ (sym (lt-zero _) ∙ c .if1 .taken)) returns-2 returns-3)

@@ -24,14 +24,8 @@ above b h = is-nan (ofBits binary64 b) (sym (nanBits-is binary64 b) ∙ nanBits-
 not-above : (b : ℕ) → b % 2 ^ 63 ≤ 2047 * 2 ^ 52 → T (not (nanBits binary64 b))
 not-above b h = subst (λ v. T (not v)) (sym (nanBits-above binary64 b)) (le→nltb (2047 * 2 ^ 52) (b % 2 ^ 63) h)
 
-returns : tie.Need-returns
-returns c = nan-is ∙ above (c .before .args .bits) (c .if1 .taken)
-
-float-from-bits-result : tie.Need-float-from-bits-result
-float-from-bits-result c = not-above (c .before .args .bits) (c .if1 .left)
-
 returns-2 : tie.Need-returns-2
 returns-2 c = search needs
 
 pub from-bits-spec : {M : Type 1} → statement M
-from-bits-spec = tie.close (tie.spec returns float-from-bits-result returns-2)
+from-bits-spec = tie.close (tie.spec (λ c. nan-is ∙ above (c .before .args .bits) (c .if1 .taken)) (λ c. not-above (c .before .args .bits) (c .if1 .left)) returns-2)

@@ -20,11 +20,8 @@ not-below nan e = refl
 not-below (inf s) e = refl
 not-below (fin s m e) h = sym h
 
-returns : tie.Need-returns
-returns c = rw infinity-is (below-infinity _ (rw infinity-is at (c .if1 .taken)))
-
 returns-2 : tie.Need-returns-2
 returns-2 c = not-below _ (rw infinity-is at (c .if1 .left))
 
 pub is-finite-spec : {M : Type 1} → statement M
-is-finite-spec = tie.close (tie.spec returns returns-2)
+is-finite-spec = tie.close (tie.spec (λ c. rw infinity-is (below-infinity _ (rw infinity-is at (c .if1 .taken)))) returns-2)

@@ -15,11 +15,8 @@ bits-of-nan = refl
 returns : tie.Need-returns
 returns c = bits-of-nan ∙ ap (toBits binary64) (sym (differs-from-itself _ (subst T (sym (c .if1 .taken)) tt)))
 
-float-to-bits-result : tie.Need-float-to-bits-result
-float-to-bits-result c = no-nan _ (c .if1 .left)
-
 returns-2 : tie.Need-returns-2
 returns-2 c = search needs
 
 pub to-bits-spec : {M : Type 1} → statement M
-to-bits-spec = tie.close (tie.spec returns float-to-bits-result returns-2)
+to-bits-spec = tie.close (tie.spec returns (λ c. no-nan _ (c .if1 .left)) returns-2)

@@ -1,79 +1,80 @@
 -- `iterated::attempt` meets its contract. Assumes nothing.
-use mathlib.Core.Path.{refl}
+use Prim.Native.Nat.{_*_, _≤_}
 use native.Mathlib.Omega.{arith}
-use Rattle.solver.specs.Call.{inputs}
-use Rattle.iterated.proofs.Laws.{fits-under, within-next, within-front, accepted, accepted-left-by, rejected}
-use borrow.Author.Needs.{needs}
+use mathlib.Core.Path.{_≡_, sym}
+use lib.ListN.{length, take}
+use lib.Seq.{length-take-le}
+use Rattle.design.proofs.Runs.{named, read}
+use Rattle.outcome.proofs.Front.{front-size}
+use Rattle.iterated.proofs.Laws.{array-long, set-front, left-front, accepted, rejected}
 use Rattle.iterated.proofs.attempt.Statement.{statement}
 use Rattle.iterated.proofs.attempt.Tie as tie
 
-huber-threshold-requires : tie.Need-huber-threshold-requires
-huber-threshold-requires c κs = search needs
+-- what was given
+abbrev start : tie.After-propose → tie.Start
+start c = c .before .before .before .before .before .before .before .before .before .before .before .before .before
 
-propose-requires : tie.Need-propose-requires
-propose-requires c κs = c .before .before .before .before .before .before .before .before .before .before .before .pre
+-- the proposal has a place in the set
+long : (c : tie.After-propose)
+    → (length (take (length (start c .args .set .now)) (c .propose .result .set)) ≡ length (start c .args .set .now))
+    × (length (start c .args .set .now) ≤ length (c .propose .result .set))
+long c = set-front (start c .args .free .now) (c .propose .result .solved .x) (start c .args .set .now) (c .propose .result .set) (c .propose .ensures .trial)
 
-copy-requires : tie.Need-copy-requires
-copy-requires c κs = let s = c .before .before .before .before .before .before .before .before .before .before .before .before .before .before .before .before .before .before .before .before .before in (omega (arith, s .pre .0 .terms), omega arith)
+-- the free terms' steps
+few : (c : tie.After-propose) → length (start c .args .free .now) ≤ length (c .propose .result .solved .x)
+few c = omega (arith, array-long (c .propose .result .solved .x) 32 (c .propose .ok .1 .1 .1 .1 .0 .1 .1 .0 .1 .0 .1), start c .pre .0 .counted)
+
+-- scratch has room for the residuals
+room : (c : tie.After-propose) → 4 * length (start c .args .used .now) ≤ length (c .propose .last .1 .1 .1 .1 .1 .1 .1 .1 .1 .1 .1 .0)
+room c = omega (arith, start c .pre .0 .room, c .propose .kept .1 .1 .1 .1 .1 .1 .1 .1 .1 .1 .1 .0)
 
 rotational-step-norm-requires : tie.Need-rotational-step-norm-requires
-rotational-step-norm-requires c κs = let s = c .before .before .before .before .before .before .before .before .before .before .before .before .before .before .before .before .before .before .before .before .before .before .before .before .before in (omega (arith, s .pre .0 .terms, s .pre .0 .fixed-count), omega (arith, s .pre .0 .names-count, s .pre .0 .fixed-count))
-
-same-length : tie.Need-same-length
-same-length c = search needs
-
-same-length-2 : tie.Need-same-length-2
-same-length-2 c = search needs
+rotational-step-norm-requires c κs =
+    let p = c .before .before .before .before .before .before .before .before .before .before .before .before .before in
+    (named _ (start p .pre .0 .counted), read _ (start p .pre .0 .counted), length-take-le _ _ (few p))
 
 returns : tie.Need-returns
 returns c =
-    let next = c .before .before .before .before .before .before .before .before .before .before .before .before .before .before .propose in
-    let k = c .before .before .before .before .before .before .before .before .before .before .before .before .before .before .before .before .before .huber-threshold in
-    let s = c .before .before .before .before .before .before .before .before .before .before .before .before .before .before .before .before .before .before .before .before .before .before .before .before .before .before in
-    let a = s .args in
-    let l = (inputs (a .names .now) (a .fixed .now) (a .set .now) (a .dh .now) (a .dd .now) (a .pier .now) (a .sheets .now) (a .sin-lat) (a .cos-lat) (a .fit-tol)) in (
-      accepted l (a .options) (a .chi2) (a .lambda) (k .result) (k .ensures) (a .w .now) (next .last .1 .1 .1 .1 .1 .1 .1 .1 .1 .1 .1 .1 .0) (next .result .set) (next .result .chi2) (next .result .solved) (s .pre .0) (next .ensures) _ _ (c .before .before .before .before .before .before .before .if1 .taken) (c .rotational-step-norm .ensures) (c .before .before .before .before .copy .ensures),
-      next .ensures .step .only,
-      accepted-left-by l (a .options) (a .chi2) (a .lambda) (k .result) (k .ensures) (a .w .now) (next .last .1 .1 .1 .1 .1 .1 .1 .1 .1 .1 .1 .1 .0) (next .result .set) (next .result .chi2) (next .result .solved) (s .pre .0) (next .ensures) _ (c .before .before .before .before .copy .ensures),
-    )
+    let copy = c .before .before .before .before in
+    let p = c .before .before .before .before .before .before .before .before .before .before .before .before .before .before in
+    let a = start p .args in
+    accepted (p .propose .ensures) (a .options) (a .chi2) (p .before .before .before .huber-threshold .ensures) _ _ (copy .before .before .before .if1 .taken)
+    (c .rotational-step-norm .ensures) (copy .copy .ensures)
 
 residuals-under-state-requires : tie.Need-residuals-under-state-requires
 residuals-under-state-requires c κs =
-    let s = c .before .before .before .before .before .before .before .before .before .before .before .before .before .before .before .before .before .before .before .before .before in
-    let a = s .args in
-    fits-under (inputs (a .names .now) (a .fixed .now) (a .set .now) (a .dh .now) (a .dd .now) (a .pier .now) (a .sheets .now) (a .sin-lat) (a .cos-lat) (a .fit-tol)) (a .set .now) (a .w .now) _ (s .pre .0) refl (c .before .before .before .before .before .before .before .before .before .propose .ensures .step .only .long)
-
-same-length-3 : tie.Need-same-length-3
-same-length-3 c = search needs
-
-same-length-4 : tie.Need-same-length-4
-same-length-4 c = search needs
+    let p = c .before .before .before .before .before .before .before .before .before in
+    (start p .pre .0 .counted, length-take-le _ _ (room p))
 
 returns-2 : tie.Need-returns-2
 returns-2 c =
-    let next = c .before .before .before .before .before .before .before .before .before .before .before .before .before .propose in
-    let k = c .before .before .before .before .before .before .before .before .before .before .before .before .before .before .before .before .huber-threshold in
-    let r = c .before .before .before .residuals-under-state in
-    let s = c .before .before .before .before .before .before .before .before .before .before .before .before .before .before .before .before .before .before .before .before .before .before .before .before .before in
-    let a = s .args in
-    let l = (inputs (a .names .now) (a .fixed .now) (a .set .now) (a .dh .now) (a .dd .now) (a .pier .now) (a .sheets .now) (a .sin-lat) (a .cos-lat) (a .fit-tol)) in (
-      rejected l (a .options) (a .chi2) (a .lambda) (k .result) (k .ensures) (a .w .now) (next .last .1 .1 .1 .1 .1 .1 .1 .1 .1 .1 .1 .1 .0) (next .result .set) (next .result .chi2) (next .result .solved) (s .pre .0) (next .ensures) (c .before .before .before .before .before .before .if1 .left),
-      within-next l (a .set .now) (a .w .now) (next .last .1 .1 .1 .1 .1 .1 .1 .1 .1 .1 .1 .1 .0) _ refl (next .ensures .step .only) (within-front l (next .last .1 .1 .1 .1 .1 .1 .1 .1 .1 .1 .1 .1 .0) _ (r .ensures .1)),
-      r .ensures .0,
+    let under = c .before .before .before in
+    let p = c .before .before .before .before .before .before .before .before .before .before .before .before .before in
+    let a = start p .args in (
+      rejected (p .propose .ensures) (a .options) (a .chi2) (p .before .before .before .huber-threshold .ensures) (under .before .before .before .if1 .left),
+      left-front (start p .pre .0 .counted) (record { room = room p; kept = under .residuals-under-state .kept .1 .1 .1 .1 .1 .1 .1 .1 .1 .0 }) _ (omega arith)
+          (under .residuals-under-state .ensures),
     )
 
 pub attempt-spec : {M : Type 1} → statement M
 attempt-spec =
     tie.close
     (tie.spec
-    huber-threshold-requires
-    propose-requires
-    copy-requires
+    (λ c κs. omega (arith, c .before .before .before .before .before .before .before .before .before .pre .0 .counted))
+    (λ c κs. c .before .before .before .before .before .before .before .before .before .before .before .before .pre)
+    (λ c. long (c .before .before .before .before .before .before .before) .1)
+    (λ c. sym (long (c .before .before .before .before .before .before .before .before) .0))
+    (λ c κs. sym (long (c .before .before .before .before .before .before .before .before .before) .0))
+    (λ c. few (c .before .before .before .before .before .before .before .before .before .before .before .before))
+    (λ c. front-size _ _ (few (c .before .before .before .before .before .before .before .before .before .before .before .before .before)))
     rotational-step-norm-requires
-    same-length
-    same-length-2
+    (λ c. omega arith)
+    (λ c. omega arith)
     returns
+    (λ c. omega (arith, start (c .before .before .before .before .before .before .before) .pre .0 .counted))
+    (λ c. room (c .before .before .before .before .before .before .before .before))
+    (λ c. front-size _ _ (room (c .before .before .before .before .before .before .before .before .before)))
     residuals-under-state-requires
-    same-length-3
-    same-length-4
+    (λ c. omega arith)
+    (λ c. omega arith)
     returns-2)

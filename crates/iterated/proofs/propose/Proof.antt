@@ -1,57 +1,67 @@
 -- `iterated::propose` meets its contract. Assumes nothing.
+use Prim.Native.Nat.{_*_, _≤_}
+use native.Mathlib.Omega.{arith}
 use mathlib.Core.Path.{sym, ap, _∙_}
-use lib.ListN.{length, take}
-use Rattle.solver.specs.Call.{inputs}
-use Rattle.iterated.proofs.Laws.{fits-under, moved-front, moved-length, proposes}
-use borrow.Author.Needs.{needs}
+use lib.ListN.{length}
+use lib.Seq.{length-take-le}
+use Rattle.outcome.proofs.Front.{front-size}
+use Rattle.iterated.proofs.Best.{moved-length}
+use Rattle.iterated.proofs.Laws.{proposes}
 use Rattle.iterated.proofs.propose.Statement.{statement}
 use Rattle.iterated.proofs.propose.Tie as tie
 
-lm-step-requires : tie.Need-lm-step-requires
-lm-step-requires c κs = search needs
-
 trial-state-from-requires : tie.Need-trial-state-from-requires
-trial-state-from-requires c κs = search needs
+trial-state-from-requires c κs =
+    let f = c .before .before .before .before .before .before .before .before .before .before .before .before .before .before .before .pre .0 in
+    (f .counted .terms, omega (arith, f .counted .terms, f .counted .free-few), f .counted .free-below)
 
 array-share-prefix-trial : tie.Need-array-share-prefix-trial
-array-share-prefix-trial c = search needs
+array-share-prefix-trial c =
+    let f = c .before .before .before .before .before .before .before .before .before .before .before .before .before .before .before .before .pre .0 in
+    omega (arith, f .counted .terms)
 
 slice-aggregate-chi2-at-state : tie.Need-slice-aggregate-chi2-at-state
 slice-aggregate-chi2-at-state c =
-    let trial = c .before in
-    let x = c .before .before .before .before .before .before .lm-step .result .x in
-    let a = c .before .before .before .before .before .before .before .before .before .before .before .before .before .before .before .before .args in
-    sym (ap length (moved-front (a .fixed .now) x (a .set .now) (trial .trial-state-from .result) (trial .trial-state-from .ensures)) ∙ moved-length (a .fixed .now) x (a .set .now))
+    sym (ap length (c .before .trial-state-from .ensures) ∙ moved-length _ _ _)
+
+-- the residuals have room after the step
+room : (c : tie.After-lm-step)
+    → 4 * length (c .before .before .before .before .before .before .before .before .before .before .before .args .used .now)
+    ≤ length (c .lm-step .last .1 .1 .1 .1 .1 .1 .1 .1 .1 .1 .1 .0)
+room c =
+    let s = c .before .before .before .before .before .before .before .before .before .before .before in
+    omega (arith, s .pre .0 .room, c .lm-step .kept .1 .1 .1 .1 .1 .1 .1 .1 .1 .1 .1 .0)
 
 chi2-at-state-requires : tie.Need-chi2-at-state-requires
 chi2-at-state-requires c κs =
     let trial = c .before .before in
-    let step = c .before .before .before .before .before .before .before in
-    let s = c .before .before .before .before .before .before .before .before .before .before .before .before .before .before .before .before .before in
-    let a = s .args in
-    let front = moved-front (a .fixed .now) (step .lm-step .result .x) (a .set .now) (trial .trial-state-from .result) (trial .trial-state-from .ensures) in
-    fits-under (inputs (a .names .now) (a .fixed .now) (a .set .now) (a .dh .now) (a .dd .now) (a .pier .now) (a .sheets .now) (a .sin-lat) (a .cos-lat) (a .fit-tol)) (take (length (a .set .now)) (trial .trial-state-from .result)) (a .w .now) _ (s .pre .0) (ap length front ∙ moved-length (a .fixed .now) (step .lm-step .result .x) (a .set .now)) (step .lm-step .ensures .only .long)
-
-same-length : tie.Need-same-length
-same-length c = search needs
+    let s = trial .before .before .before .before .before .before .before .before .before .before .before .before .before .before .before .before in
+    let f = s .pre .0 in
+    let long = ap length (trial .trial-state-from .ensures) ∙ moved-length _ _ _ in
+    (rw long (f .counted), length-take-le _ _ (room (trial .before .before .before .before .before)))
 
 returns : tie.Need-returns
 returns c =
     let chi2 = c .before .before in
-    let trial = c .before .before .before .before .before in
-    let step = c .before .before .before .before .before .before .before .before .before .before in
-    let s = c .before .before .before .before .before .before .before .before .before .before .before .before .before .before .before .before .before .before .before .before in
+    let trial = chi2 .before .before .before in
+    let step = trial .before .before .before .before .before in
+    let s = step .before .before .before .before .before .before .before .before .before .before .before in
     let a = s .args in
-    proposes (inputs (a .names .now) (a .fixed .now) (a .set .now) (a .dh .now) (a .dd .now) (a .pier .now) (a .sheets .now) (a .sin-lat) (a .cos-lat) (a .fit-tol)) (a .k) (a .lambda) (a .w .now) (step .lm-step .last .1 .1 .1 .1 .1 .1 .1 .1 .1 .1 .1 .1 .0) _ (trial .trial-state-from .result) _ (step .lm-step .result) (s .pre .0) (step .lm-step .ensures) (trial .trial-state-from .ensures) (chi2 .chi2-at-state .ensures)
+    proposes (s .pre .0 .counted) (a .k) (a .lambda) (a .set .now) _ _ (trial .trial-state-from .result) _ (step .lm-step .result)
+    (record { room = room step; kept = chi2 .chi2-at-state .kept .1 .1 .1 .1 .1 .1 .1 .1 .1 .0 })
+    (step .lm-step .ensures) (trial .trial-state-from .ensures) (chi2 .chi2-at-state .ensures)
 
 pub propose-spec : {M : Type 1} → statement M
 propose-spec =
     tie.close
     (tie.spec
-    lm-step-requires
+    (λ c. omega arith)
+    (λ c κs. c .before .before .before .before .before .before .before .before .before .before .pre)
     trial-state-from-requires
     array-share-prefix-trial
     slice-aggregate-chi2-at-state
+    (λ c. room (c .before .before .before .before .before .before))
+    (λ c. front-size _ _ (room (c .before .before .before .before .before .before .before)))
     chi2-at-state-requires
-    same-length
+    (λ c. omega arith)
     returns)

@@ -4,12 +4,6 @@ use borrow.Author.Needs.{needs}
 use Rattle.jacobi.proofs.tangent.Statement.{statement}
 use Rattle.jacobi.proofs.tangent.Tie as tie
 
-sqrt-requires : tie.Need-sqrt-requires
-sqrt-requires c κs = search needs
-
-abs-requires : tie.Need-abs-requires
-abs-requires c κs = search needs
-
 returns : tie.Need-returns
 unfolding tanOf zetaOf
 returns c = rw (c .if1 .taken, c .before .abs .ensures, c .before .before .sqrt .ensures)
@@ -19,4 +13,4 @@ unfolding tanOf zetaOf
 returns-2 c = rw (c .if1 .left, c .before .abs .ensures, c .before .before .sqrt .ensures)
 
 pub tangent-spec : {M : Type 1} → statement M
-tangent-spec = tie.close (tie.spec sqrt-requires abs-requires returns returns-2)
+tangent-spec = tie.close (tie.spec (λ c κs. search needs) (λ c κs. search needs) returns returns-2)

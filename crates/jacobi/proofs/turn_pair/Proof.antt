@@ -2,9 +2,9 @@
 use Prim.Native.Nat.{_+_, _*_, _≤_}
 use native.Mathlib.Omega.{arith}
 use lib.ListN.{length}
-use Rattle.sequence.proofs.Parts.{apart}
+use Rattle.sequence.proofs.Parts.{apart, inside}
 use Rattle.jacobi.proofs.Laws.{pair-turned}
-use Rattle.jacobi.proofs.Pairs.{inside, turned-pair, turned-sums}
+use Rattle.jacobi.proofs.Pairs.{turned-pair, turned-sums}
 use borrow.Author.Needs.{needs}
 use Rattle.jacobi.proofs.turn_pair.Statement.{statement}
 use Rattle.jacobi.proofs.turn_pair.Tie as tie
@@ -12,30 +12,6 @@ use Rattle.jacobi.proofs.turn_pair.Tie as tie
 -- where the columns lie
 room : (s : tie.Start) → (s .args .p * s .args .h + s .args .h ≤ s .args .q * s .args .h) × (s .args .q * s .args .h + s .args .h ≤ s .args .m * s .args .h)
 room s = inside _ _ _ (s .args .h) (s .pre .0) (s .pre .1)
-
-tangent-requires : tie.Need-tangent-requires
-tangent-requires c κs = search needs
-
-cosine-requires : tie.Need-cosine-requires
-cosine-requires c κs = search needs
-
-mul-x : tie.Need-mul-x
-mul-x c = omega (arith, room (c .before .before .before))
-
-mul-y : tie.Need-mul-y
-mul-y c = omega (arith, room (c .before .before .before))
-
-add-if1 : tie.Need-add-if1
-add-if1 c = search needs
-
-add-turn : tie.Need-add-turn
-add-turn c = search needs
-
-turn-requires : tie.Need-turn-requires
-turn-requires c κs = omega (arith, room (c .before .before .before .before .before))
-
-same-length : tie.Need-same-length
-same-length c = search needs
 
 returns : tie.Need-returns
 returns c =
@@ -47,9 +23,6 @@ returns c =
       λ b. pair-turned _ _ _ _ _ _ _ (own .4) (own .5) _ _ (tangent .tangent .ensures) (cosine .cosine .ensures) _ (turned .turn .ensures) b,
       λ l. absurd (omega arith),
     )
-
-add-turn-on : tie.Need-add-turn-on
-add-turn-on c = omega (arith, room (c .before .before .before .before .before))
 
 turn-on-requires : tie.Need-turn-on-requires
 turn-on-requires c κs =
@@ -65,9 +38,6 @@ add-turn-3 c = omega (arith, room (c .before .before .before .before .before .be
 
 turn-requires-2 : tie.Need-turn-requires-2
 turn-requires-2 c κs = omega (arith, room (c .before .before .before .before .before .before .before .before .before))
-
-same-length-2 : tie.Need-same-length-2
-same-length-2 c = search needs
 
 returns-2 : tie.Need-returns-2
 returns-2 c =
@@ -91,19 +61,19 @@ pub turn-pair-spec : {M : Type 1} → statement M
 turn-pair-spec =
     tie.close
     (tie.spec
-    tangent-requires
-    cosine-requires
-    mul-x
-    mul-y
-    add-if1
-    add-turn
-    turn-requires
-    same-length
+    (λ c κs. search needs)
+    (λ c κs. search needs)
+    (λ c. omega (arith, room (c .before .before .before)))
+    (λ c. omega (arith, room (c .before .before .before)))
+    (λ c. search needs)
+    (λ c. search needs)
+    (λ c κs. omega (arith, room (c .before .before .before .before .before)))
+    (λ c. search needs)
     returns
-    add-turn-on
+    (λ c. omega (arith, room (c .before .before .before .before .before)))
     turn-on-requires
     add-turn-2
     add-turn-3
     turn-requires-2
-    same-length-2
+    (λ c. search needs)
     returns-2)

@@ -9,9 +9,6 @@ use borrow.Author.Needs.{needs}
 use Rattle.linalg.proofs.in_order.Statement.{statement}
 use Rattle.linalg.proofs.in_order.Tie as tie
 
-array-borrow-prefix-o : tie.Need-array-borrow-prefix-o
-array-borrow-prefix-o c = search needs
-
 slice-aggregate-order : tie.Need-slice-aggregate-order
 slice-aggregate-order c = let s = c .before in sym (length-take-le (s .args .m) (replicate {A = ℕ} 32 0) (s .pre))
 
@@ -26,4 +23,4 @@ returns c =
 
 pub in-order-spec : {M : Type 1} → statement M
 in-order-spec =
-    tie.close (tie.spec array-borrow-prefix-o slice-aggregate-order order-requires returns)
+    tie.close (tie.spec (λ c. search needs) slice-aggregate-order order-requires returns)

@@ -18,33 +18,6 @@ Inv-loop v text₀ i₀ text i = (i ≤ 16) × (length text₀ ≡ 16) × (text 
 abbrev μ-loop : tie.MeasureT-loop
 μ-loop v text₀ i₀ text i = 16 - i
 
-loop-holds : tie.Need-loop-holds Inv-loop μ-loop
-loop-holds c = (omega arith, refl, filled-none _ _)
-
-mul-d : tie.Need-mul-d Inv-loop μ-loop
-mul-d c = omega arith
-
-sub-d : tie.Need-sub-d Inv-loop μ-loop
-sub-d c = omega arith
-
-shr-d : tie.Need-shr-d Inv-loop μ-loop
-shr-d c = omega arith
-
-cast-digit-of : tie.Need-cast-digit-of Inv-loop μ-loop
-cast-digit-of c = omega arith
-
-digit-of-requires : tie.Need-digit-of-requires Inv-loop μ-loop
-digit-of-requires c κs = omega arith
-
-array-write-text : tie.Need-array-write-text Inv-loop μ-loop
-array-write-text c = omega arith
-
-add-i : tie.Need-add-i Inv-loop μ-loop
-add-i c = omega arith
-
-loop-less : tie.Need-loop-less Inv-loop μ-loop
-loop-less c = omega arith
-
 loop-again : tie.Need-loop-again Inv-loop μ-loop
 loop-again c =
     let l = c .before .before .loop in
@@ -62,14 +35,14 @@ hex-digits-spec =
     (tie.spec
     Inv-loop
     μ-loop
-    loop-holds
-    mul-d
-    sub-d
-    shr-d
-    cast-digit-of
-    digit-of-requires
-    array-write-text
-    add-i
-    loop-less
+    (λ c. (omega arith, refl, filled-none _ _))
+    (λ c. omega arith)
+    (λ c. omega arith)
+    (λ c. omega arith)
+    (λ c. omega arith)
+    (λ c κs. omega arith)
+    (λ c. omega arith)
+    (λ c. omega arith)
+    (λ c. omega arith)
     loop-again
     returns)

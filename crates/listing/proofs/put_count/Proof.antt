@@ -6,14 +6,8 @@ use borrow.Author.Needs.{needs}
 use Rattle.listing.proofs.put_count.Statement.{statement}
 use Rattle.listing.proofs.put_count.Tie as tie
 
-put-byte-requires : tie.Need-put-byte-requires
-put-byte-requires c κs = search needs
-
 put-decimal-requires : tie.Need-put-decimal-requires
 put-decimal-requires c κs = omega (arith, decimal-short (c .before .before .before .before .before .before .args .v) (omega arith))
-
-same-length : tie.Need-same-length
-same-length c = search needs
 
 returns : tie.Need-returns
 returns c =
@@ -21,4 +15,4 @@ returns c =
     (wrote-then (c .before .before .before .before .before .before .put-byte .ensures) (c .before .before .put-decimal .ensures), omega (arith, decimal-short v (omega arith)))
 
 pub put-count-spec : {M : Type 1} → statement M
-put-count-spec = tie.close (tie.spec put-byte-requires put-decimal-requires same-length returns)
+put-count-spec = tie.close (tie.spec (λ c κs. search needs) put-decimal-requires (λ c. search needs) returns)

@@ -6,24 +6,6 @@ use borrow.Author.Needs.{needs}
 use Rattle.listing.proofs.put_floats.Statement.{statement}
 use Rattle.listing.proofs.put_floats.Tie as tie
 
-put-byte-requires : tie.Need-put-byte-requires
-put-byte-requires c κs = search needs
-
-put-bits-requires : tie.Need-put-bits-requires
-put-bits-requires c κs = search needs
-
-put-byte-requires-2 : tie.Need-put-byte-requires-2
-put-byte-requires-2 c κs = search needs
-
-put-bits-requires-2 : tie.Need-put-bits-requires-2
-put-bits-requires-2 c κs = search needs
-
-put-byte-requires-3 : tie.Need-put-byte-requires-3
-put-byte-requires-3 c κs = search needs
-
-same-length : tie.Need-same-length
-same-length c = search needs
-
 returns : tie.Need-returns
 unfolding floats
 returns c =
@@ -38,10 +20,10 @@ pub put-floats-spec : {M : Type 1} → statement M
 put-floats-spec =
     tie.close
     (tie.spec
-    put-byte-requires
-    put-bits-requires
-    put-byte-requires-2
-    put-bits-requires-2
-    put-byte-requires-3
-    same-length
+    (λ c κs. search needs)
+    (λ c κs. search needs)
+    (λ c κs. search needs)
+    (λ c κs. search needs)
+    (λ c κs. search needs)
+    (λ c. search needs)
     returns)

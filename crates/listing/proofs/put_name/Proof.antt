@@ -5,7 +5,8 @@ use mathlib.Core.Path.{_≡_, refl}
 use borrow.Author.Needs.{needs}
 use lib.ListN.{length, take, length-set}
 use Rattle.listing.specs.Text.{Wrote}
-use Rattle.listing.proofs.Writes.{wrote-start, wrote-next, Named, named-next, named-stop, named-end}
+use Rattle.terms.proofs.Slots.{Named, named-next, named-stop, named-end}
+use Rattle.listing.proofs.Writes.{wrote-start, wrote-next}
 use Rattle.listing.proofs.put_name.Statement.{statement}
 use Rattle.listing.proofs.put_name.Tie as tie
 
@@ -15,38 +16,11 @@ Inv-loop out₀ at name i₀ out i = (i ≤ 16) × (length name ≡ 16) × (leng
 abbrev μ-loop : tie.MeasureT-loop
 μ-loop out₀ at name i₀ out i = 16 - i
 
-loop-holds : tie.Need-loop-holds Inv-loop μ-loop
-loop-holds c = (omega arith, search needs, refl, refl, wrote-start _ _ (omega arith))
-
-array-read-if1 : tie.Need-array-read-if1 Inv-loop μ-loop
-array-read-if1 c = omega arith
-
-add-result : tie.Need-add-result Inv-loop μ-loop
-add-result c = omega arith
-
-same-length : tie.Need-same-length Inv-loop μ-loop
-same-length c = omega arith
-
 returns : tie.Need-returns Inv-loop μ-loop
 returns c =
     let name = c .before .before .before .args .t3 in
     let l = c .before .before .loop in
     (rw (named-stop name (l .i) (omega arith) (c .if1 .taken) (l .inv .3)) (l .inv .4), omega arith)
-
-array-read-out : tie.Need-array-read-out Inv-loop μ-loop
-array-read-out c = omega arith
-
-add-out : tie.Need-add-out Inv-loop μ-loop
-add-out c = omega arith
-
-slice-write-out : tie.Need-slice-write-out Inv-loop μ-loop
-slice-write-out c = omega arith
-
-add-i : tie.Need-add-i Inv-loop μ-loop
-add-i c = omega arith
-
-loop-less : tie.Need-loop-less Inv-loop μ-loop
-loop-less c = omega arith
 
 loop-again : tie.Need-loop-again Inv-loop μ-loop
 loop-again c =
@@ -58,12 +32,6 @@ loop-again c =
       named-next name (l .i) (omega arith) (c .if1 .left) (l .inv .3),
       wrote-next name _ (l .out) _ (l .i) (omega arith) (omega arith) (l .inv .4),
     )
-
-add-result-2 : tie.Need-add-result-2 Inv-loop μ-loop
-add-result-2 c = omega arith
-
-same-length-2 : tie.Need-same-length-2 Inv-loop μ-loop
-same-length-2 c = omega arith
 
 returns-2 : tie.Need-returns-2 Inv-loop μ-loop
 returns-2 c =
@@ -78,17 +46,17 @@ put-name-spec =
     (tie.spec
     Inv-loop
     μ-loop
-    loop-holds
-    array-read-if1
-    add-result
-    same-length
+    (λ c. (omega arith, search needs, refl, refl, wrote-start _ _ (omega arith)))
+    (λ c. omega arith)
+    (λ c. omega arith)
+    (λ c. omega arith)
     returns
-    array-read-out
-    add-out
-    slice-write-out
-    add-i
-    loop-less
+    (λ c. omega arith)
+    (λ c. omega arith)
+    (λ c. omega arith)
+    (λ c. omega arith)
+    (λ c. omega arith)
     loop-again
-    add-result-2
-    same-length-2
+    (λ c. omega arith)
+    (λ c. omega arith)
     returns-2)

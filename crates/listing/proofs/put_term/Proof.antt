@@ -9,18 +9,6 @@ use borrow.Author.Needs.{needs}
 use Rattle.listing.proofs.put_term.Statement.{statement}
 use Rattle.listing.proofs.put_term.Tie as tie
 
-read-term-requires : tie.Need-read-term-requires
-read-term-requires c κs = search needs
-
-put-name-requires : tie.Need-put-name-requires
-put-name-requires c κs = search needs
-
-put-floats-requires : tie.Need-put-floats-requires
-put-floats-requires c κs = search needs
-
-same-length : tie.Need-same-length
-same-length c = search needs
-
 returns : tie.Need-returns
 unfolding termLine
 returns c =
@@ -31,4 +19,4 @@ returns c =
 pub put-term-spec : {M : Type 1} → statement M
 put-term-spec =
     tie.close
-    (tie.spec read-term-requires put-name-requires put-floats-requires same-length returns)
+    (tie.spec (λ c κs. search needs) (λ c κs. search needs) (λ c κs. search needs) (λ c. search needs) returns)

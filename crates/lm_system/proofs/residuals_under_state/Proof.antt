@@ -1,57 +1,39 @@
 -- `lm_system::residuals_under_state` meets its contract. Assumes nothing.
 use native.Mathlib.Omega.{arith}
-use borrow.Author.Needs.{needs}
-use Rattle.solver.specs.Call.{inputs}
-use Rattle.lm_system.proofs.Laws.{under-state}
+use Rattle.design.proofs.Runs.{seen}
+use Rattle.lm_system.proofs.Laws.{under-set}
 use Rattle.lm_system.proofs.residuals_under_state.Statement.{statement}
 use Rattle.lm_system.proofs.residuals_under_state.Tie as tie
 
-mul-rows : tie.Need-mul-rows
-mul-rows c = search needs
-
 predict-requires : tie.Need-predict-requires
-predict-requires c κs = search needs
-
-add-subtract-from-differences : tie.Need-add-subtract-from-differences
-add-subtract-from-differences c = search needs
-
-mul-subtract-from-differences : tie.Need-mul-subtract-from-differences
-mul-subtract-from-differences c = search needs
-
-sub-subtract-from-differences : tie.Need-sub-subtract-from-differences
-sub-subtract-from-differences c = search needs
-
-part-subtract-from-differences-start : tie.Need-part-subtract-from-differences-start
-part-subtract-from-differences-start c = search needs
-
-part-subtract-from-differences-end : tie.Need-part-subtract-from-differences-end
-part-subtract-from-differences-end c = search needs
+predict-requires c κs =
+    let s = c .before .before .before .before .before .before .before .before .before .before in
+    (seen _ (s .pre .0), s .pre .0 .terms, s .pre .0 .names-count, s .pre .1)
 
 subtract-from-differences-requires : tie.Need-subtract-from-differences-requires
-subtract-from-differences-requires c κs = search needs
-
-same-length : tie.Need-same-length
-same-length c = search needs
+subtract-from-differences-requires c κs =
+    let s = c .before .before .before .before .before .before .before .before .before .before .before .before .before .before in
+    (s .pre .0 .dd-count, s .pre .0 .used-below, omega arith)
 
 returns : tie.Need-returns
 returns c =
     let less = c .before .before in
-    let predict = c .before .before .before .before .before .before in
-    let s = c .before .before .before .before .before .before .before .before .before .before .before .before .before .before .before .before in
-    let a = s .args in
-    under-state (inputs (a .names .now) (a .fixed .now) (a .set .now) (a .dh .now) (a .dd .now) (a .pier .now) (a .sheets .now) (a .sin-lat) (a .cos-lat) (a .fit-tol)) (a .w .now) (s .pre) (predict .predict .last .1 .1 .1 .1 .1 .1 .0) (less .subtract-from-differences .last .1 .1 .0) (predict .predict .ensures) (less .subtract-from-differences .kept .1 .1 .0) (less .subtract-from-differences .ensures)
+    let predict = less .before .before .before .before in
+    let s = predict .before .before .before .before .before .before .before .before .before .before .before in
+    under-set (s .pre .0) (s .args .set .now) (predict .predict .last .1 .1 .1 .1 .1 .1 .0) (less .subtract-from-differences .last .1 .1 .1 .0) (omega arith)
+    (predict .predict .ensures) (less .subtract-from-differences .kept .1 .1 .1 .0) (less .subtract-from-differences .ensures)
 
 pub residuals-under-state-spec : {M : Type 1} → statement M
 residuals-under-state-spec =
     tie.close
     (tie.spec
-    mul-rows
+    (λ c. omega arith)
     predict-requires
-    add-subtract-from-differences
-    mul-subtract-from-differences
-    sub-subtract-from-differences
-    part-subtract-from-differences-start
-    part-subtract-from-differences-end
+    (λ c. omega arith)
+    (λ c. omega arith)
+    (λ c. omega arith)
+    (λ c. omega arith)
+    (λ c. omega arith)
     subtract-from-differences-requires
-    same-length
+    (λ c. omega arith)
     returns)

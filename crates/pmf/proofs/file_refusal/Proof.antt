@@ -4,7 +4,7 @@ use native.Mathlib.Omega.{arith}
 use mathlib.Core.Path.{_≡_, sym, _∙_}
 use lib.ListN.{length}
 use Rattle.sequence.proofs.Tests.{was-no, was-yes}
-use Rattle.pmf.specs.File.{termsOf, starsOf, fileSize}
+use Rattle.pmf.specs.File.{fileTerms, fileStars, termCount, starCount, fileSize}
 use Rattle.pmf.proofs.Header.{Header, no-length, no-mark, no-version, no-mode, no-terms, no-stars, no-size, none}
 use borrow.Author.Needs.{needs}
 use Rattle.pmf.proofs.file_refusal.Statement.{statement}
@@ -21,102 +21,70 @@ header c =
       mode = was-yes (c .before .mode-known .ensures) (c .if4 .left);
     }
 
-returns : tie.Need-returns
-returns c = (no-length _ (c .if1 .taken), λ z. absurd (omega arith))
-
-marked-requires : tie.Need-marked-requires
-marked-requires c κs = search needs
-
 returns-2 : tie.Need-returns-2
 returns-2 c = (no-mark _ (c .before .before .if1 .left) (was-no (c .before .marked .ensures) (c .if2 .taken)), λ z. absurd (omega arith))
-
-u16-at-requires : tie.Need-u16-at-requires
-u16-at-requires c κs = search needs
 
 returns-3 : tie.Need-returns-3
 returns-3 c =
     let v = c .before in
-    (no-version _ (v .before .before .before .if1 .left) (was-yes (v .before .before .marked .ensures) (v .before .if2 .left)) (λ e. c .if3 .taken (v .u16-at .ensures .0 ∙ e)), λ z. absurd (omega arith))
-
-shared-slice-read-mode-known : tie.Need-shared-slice-read-mode-known
-shared-slice-read-mode-known c = search needs
-
-mode-known-requires : tie.Need-mode-known-requires
-mode-known-requires c κs = search needs
+    let mark = was-yes (v .before .before .marked .ensures) (v .before .if2 .left) in
+    (no-version _ (v .before .before .before .if1 .left) mark (λ e. c .if3 .taken (v .u16-at .ensures .0 ∙ e)), λ z. absurd (omega arith))
 
 returns-4 : tie.Need-returns-4
 returns-4 c =
-    let v = c .before .before .before .before in
-    (no-mode _ (v .before .before .before .if1 .left) (was-yes (v .before .before .marked .ensures) (v .before .if2 .left)) (sym (v .u16-at .ensures .0) ∙ c .before .before .before .if3 .left) (was-no (c .before .mode-known .ensures) (c .if4 .taken)), λ z. absurd (omega arith))
-
-shared-slice-read-wide : tie.Need-shared-slice-read-wide
-shared-slice-read-wide c = search needs
-
-wide-requires : tie.Need-wide-requires
-wide-requires c κs = search needs
-
-u16-at-requires-2 : tie.Need-u16-at-requires-2
-u16-at-requires-2 c κs = search needs
+    let w = c .before .before .before in
+    let v = w .before in
+    let mark = was-yes (v .before .before .marked .ensures) (v .before .if2 .left) in
+    let mode = was-no (c .before .mode-known .ensures) (c .if4 .taken) in
+    (no-mode _ (v .before .before .before .if1 .left) mark (sym (v .u16-at .ensures .0) ∙ w .if3 .left) mode, λ z. absurd (omega arith))
 
 returns-5 : tie.Need-returns-5
 returns-5 c =
-    let m = c .before .before .wide .ensures .0 in
+    let m = c .before .before .size .ensures .0 in
     (no-terms _ (header (c .before .before .before .before)) (omega arith), λ z. absurd (omega arith))
 
 returns-6 : tie.Need-returns-6
 returns-6 c =
-    let m = c .before .before .before .wide .ensures .0 in
+    let m = c .before .before .before .size .ensures .0 in
     let n = c .before .before .u16-at2 .ensures .0 in
     (no-stars _ (header (c .before .before .before .before .before)) (omega arith) (omega arith), λ z. absurd (omega arith))
 
-mul-if7 : tie.Need-mul-if7
-mul-if7 c = search needs
-
-add-if7 : tie.Need-add-if7
-add-if7 c = search needs
-
-mul-if7-2 : tie.Need-mul-if7-2
-mul-if7-2 c = search needs
-
-add-if7-2 : tie.Need-add-if7-2
-add-if7-2 c = search needs
-
 returns-7 : tie.Need-returns-7
 returns-7 c =
-    let m = c .before .before .before .before .wide .ensures .0 in
+    let m = c .before .before .before .before .size .ensures .0 in
     let n = c .before .before .before .u16-at2 .ensures .0 in
     (no-size _ (header (c .before .before .before .before .before .before)) (omega arith) (omega arith) (λ e. c .if7 .taken (omega arith)), λ z. absurd (omega arith))
 
 returns-8 : tie.Need-returns-8
 returns-8 c =
-    let m = c .before .before .before .before .wide .ensures .0 in
+    let m = c .before .before .before .before .size .ensures .0 in
     let n = c .before .before .before .u16-at2 .ensures .0 in
     let s = c .before .before .before .before .before .before .before .before .before .before .before .before .before .before .before .args .s .now in
-    let a : termsOf s ≤ 16 = omega arith in
-    let b : starsOf s ≤ 100 = omega arith in
-    let z : length s ≡ fileSize (termsOf s) (starsOf s) = omega arith in
+    let a : termCount s ≤ fileTerms = omega arith in
+    let b : starCount s ≤ fileStars = omega arith in
+    let z : length s ≡ fileSize (termCount s) (starCount s) = omega arith in
     (none s (header (c .before .before .before .before .before .before)) a b z, λ _. record { terms = a; stars = b; size = z })
 
 pub file-refusal-spec : {M : Type 1} → statement M
 file-refusal-spec =
     tie.close
     (tie.spec
-    returns
-    marked-requires
+    (λ c. (no-length _ (c .if1 .taken), λ z. absurd (omega arith)))
+    (λ c κs. search needs)
     returns-2
-    u16-at-requires
+    (λ c κs. search needs)
     returns-3
-    shared-slice-read-mode-known
-    mode-known-requires
+    (λ c. search needs)
+    (λ c κs. search needs)
     returns-4
-    shared-slice-read-wide
-    wide-requires
-    u16-at-requires-2
+    (λ c. search needs)
+    (λ c κs. search needs)
+    (λ c κs. search needs)
     returns-5
     returns-6
-    mul-if7
-    add-if7
-    mul-if7-2
-    add-if7-2
+    (λ c. search needs)
+    (λ c. search needs)
+    (λ c. search needs)
+    (λ c. search needs)
     returns-7
     returns-8)

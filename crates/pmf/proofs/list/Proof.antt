@@ -11,15 +11,6 @@ returns : tie.Need-returns
 unfolding listedIn
 returns c = rw (lt-leb listingRoom _ (c .if1 .taken))
 
-file-refusal-requires : tie.Need-file-refusal-requires
-file-refusal-requires c κs = search needs
-
-put-refusal-requires : tie.Need-put-refusal-requires
-put-refusal-requires c κs = search needs
-
-same-length : tie.Need-same-length
-same-length c = search needs
-
 returns-2 : tie.Need-returns-2
 unfolding listedIn listed
 returns-2 c =
@@ -30,9 +21,6 @@ list-file-requires : tie.Need-list-file-requires
 list-file-requires c κs =
     let f = c .before .before in
     (f .before .if1 .left, f .file-refusal .ensures .1 (c .before .if2 .left))
-
-same-length-2 : tie.Need-same-length-2
-same-length-2 c = search needs
 
 returns-3 : tie.Need-returns-3
 unfolding listedIn listed
@@ -45,10 +33,10 @@ list-spec =
     tie.close
     (tie.spec
     returns
-    file-refusal-requires
-    put-refusal-requires
-    same-length
+    (λ c κs. search needs)
+    (λ c κs. search needs)
+    (λ c. search needs)
     returns-2
     list-file-requires
-    same-length-2
+    (λ c. search needs)
     returns-3)

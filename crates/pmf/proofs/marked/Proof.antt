@@ -5,20 +5,8 @@ use borrow.Author.Needs.{needs}
 use Rattle.pmf.proofs.marked.Statement.{statement}
 use Rattle.pmf.proofs.marked.Tie as tie
 
-shared-slice-read-if1 : tie.Need-shared-slice-read-if1
-shared-slice-read-if1 c = search needs
-
-returns : tie.Need-returns
-returns c = rw (mark-bytes _ (c .before .before .pre), ne-eqb _ 80 (c .if1 .taken))
-
-shared-slice-read-if2 : tie.Need-shared-slice-read-if2
-shared-slice-read-if2 c = search needs
-
 returns-2 : tie.Need-returns-2
 returns-2 c = rw (mark-bytes _ (c .before .before .before .before .pre), eq-eqb _ 80 (c .before .before .if1 .left), ne-eqb _ 77 (c .if2 .taken))
-
-shared-slice-read-result : tie.Need-shared-slice-read-result
-shared-slice-read-result c = search needs
 
 returns-3 : tie.Need-returns-3
 returns-3 c = rw (mark-bytes _ (c .before .before .before .before .before .pre), eq-eqb _ 80 (c .before .before .before .if1 .left), eq-eqb _ 77 (c .before .if2 .left))
@@ -27,9 +15,9 @@ pub marked-spec : {M : Type 1} → statement M
 marked-spec =
     tie.close
     (tie.spec
-    shared-slice-read-if1
-    returns
-    shared-slice-read-if2
+    (λ c. search needs)
+    (λ c. rw (mark-bytes _ (c .before .before .pre), ne-eqb _ 80 (c .if1 .taken)))
+    (λ c. search needs)
     returns-2
-    shared-slice-read-result
+    (λ c. search needs)
     returns-3)

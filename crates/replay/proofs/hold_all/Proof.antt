@@ -12,27 +12,6 @@ Inv-loop s held₀ i₀ i-end held i = (i-end ≡ length s) × (i ≤ i-end)
 abbrev μ-loop : tie.MeasureT-loop
 μ-loop s held₀ i₀ i-end held i = i-end - i
 
-loop-holds : tie.Need-loop-holds Inv-loop μ-loop
-loop-holds c = (refl, omega arith)
-
-mul-hold : tie.Need-mul-hold Inv-loop μ-loop
-mul-hold c = omega arith
-
-shared-slice-read-hold : tie.Need-shared-slice-read-hold Inv-loop μ-loop
-shared-slice-read-hold c = omega arith
-
-hold-requires : tie.Need-hold-requires Inv-loop μ-loop
-hold-requires c κs = tt
-
-add-i : tie.Need-add-i Inv-loop μ-loop
-add-i c = omega arith
-
-loop-less : tie.Need-loop-less Inv-loop μ-loop
-loop-less c = omega arith
-
-loop-again : tie.Need-loop-again Inv-loop μ-loop
-loop-again c = omega arith
-
 returns : tie.Need-returns Inv-loop μ-loop
 returns c = tt
 
@@ -42,11 +21,11 @@ hold-all-spec =
     (tie.spec
     Inv-loop
     μ-loop
-    loop-holds
-    mul-hold
-    shared-slice-read-hold
-    hold-requires
-    add-i
-    loop-less
-    loop-again
+    (λ c. (refl, omega arith))
+    (λ c. omega arith)
+    (λ c. omega arith)
+    (λ c κs. tt)
+    (λ c. omega arith)
+    (λ c. omega arith)
+    (λ c. omega arith)
     returns)

@@ -12,29 +12,8 @@ Inv-loop s₀ i₀ i-end s i = (i-end ≡ length s₀) × (i ≤ i-end) × (leng
 abbrev μ-loop : tie.MeasureT-loop
 μ-loop s₀ i₀ i-end s i = i-end - i
 
-loop-holds : tie.Need-loop-holds Inv-loop μ-loop
-loop-holds c = (refl, omega arith, refl)
-
-double-requires : tie.Need-double-requires Inv-loop μ-loop
-double-requires c κs = tt
-
-mul-s : tie.Need-mul-s Inv-loop μ-loop
-mul-s c = omega arith
-
-slice-write-s : tie.Need-slice-write-s Inv-loop μ-loop
-slice-write-s c = omega arith
-
-add-i : tie.Need-add-i Inv-loop μ-loop
-add-i c = omega arith
-
-loop-less : tie.Need-loop-less Inv-loop μ-loop
-loop-less c = omega arith
-
 loop-again : tie.Need-loop-again Inv-loop μ-loop
 loop-again c = (omega arith, omega arith, simp length-set (c .before .before .loop .inv .2))
-
-same-length : tie.Need-same-length Inv-loop μ-loop
-same-length c = omega arith
 
 returns : tie.Need-returns Inv-loop μ-loop
 returns c = tt
@@ -45,12 +24,12 @@ read-doubles-spec =
     (tie.spec
     Inv-loop
     μ-loop
-    loop-holds
-    double-requires
-    mul-s
-    slice-write-s
-    add-i
-    loop-less
+    (λ c. (refl, omega arith, refl))
+    (λ c κs. tt)
+    (λ c. omega arith)
+    (λ c. omega arith)
+    (λ c. omega arith)
+    (λ c. omega arith)
     loop-again
-    same-length
+    (λ c. omega arith)
     returns)

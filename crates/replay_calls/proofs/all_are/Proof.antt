@@ -12,30 +12,6 @@ Inv-loop s x i₀ i-end i = (i-end ≡ length s) × (i ≤ i-end)
 abbrev μ-loop : tie.MeasureT-loop
 μ-loop s x i₀ i-end i = i-end - i
 
-loop-holds : tie.Need-loop-holds Inv-loop μ-loop
-loop-holds c = (refl, omega arith)
-
-mul-same-bits : tie.Need-mul-same-bits Inv-loop μ-loop
-mul-same-bits c = omega arith
-
-shared-slice-read-same-bits : tie.Need-shared-slice-read-same-bits Inv-loop μ-loop
-shared-slice-read-same-bits c = omega arith
-
-same-bits-requires : tie.Need-same-bits-requires Inv-loop μ-loop
-same-bits-requires c κs = tt
-
-returns : tie.Need-returns Inv-loop μ-loop
-returns c = tt
-
-add-i : tie.Need-add-i Inv-loop μ-loop
-add-i c = omega arith
-
-loop-less : tie.Need-loop-less Inv-loop μ-loop
-loop-less c = omega arith
-
-loop-again : tie.Need-loop-again Inv-loop μ-loop
-loop-again c = omega arith
-
 returns-2 : tie.Need-returns-2 Inv-loop μ-loop
 returns-2 c = tt
 
@@ -45,12 +21,12 @@ all-are-spec =
     (tie.spec
     Inv-loop
     μ-loop
-    loop-holds
-    mul-same-bits
-    shared-slice-read-same-bits
-    same-bits-requires
-    returns
-    add-i
-    loop-less
-    loop-again
+    (λ c. (refl, omega arith))
+    (λ c. omega arith)
+    (λ c. omega arith)
+    (λ c κs. tt)
+    (λ c. tt)
+    (λ c. omega arith)
+    (λ c. omega arith)
+    (λ c. omega arith)
     returns-2)

@@ -13,45 +13,6 @@ Inv-loop pool sheets₀ count i₀ sheets i = (i ≤ count) × (length sheets �
 abbrev μ-loop : tie.MeasureT-loop
 μ-loop pool sheets₀ count i₀ sheets i = count - i
 
-loop-holds : tie.Need-loop-holds Inv-loop μ-loop
-loop-holds c = (omega arith, refl)
-
-small-requires : tie.Need-small-requires Inv-loop μ-loop
-small-requires c κs = tt
-
-mul-a : tie.Need-mul-a Inv-loop μ-loop
-mul-a c = omega arith
-
-add-copy-sheet : tie.Need-add-copy-sheet Inv-loop μ-loop
-add-copy-sheet c = omega arith
-
-mul-copy-sheet : tie.Need-mul-copy-sheet Inv-loop μ-loop
-mul-copy-sheet c = omega arith
-
-sub-copy-sheet : tie.Need-sub-copy-sheet Inv-loop μ-loop
-sub-copy-sheet c = omega arith
-
-part-copy-sheet-start : tie.Need-part-copy-sheet-start Inv-loop μ-loop
-part-copy-sheet-start c = omega arith
-
-part-copy-sheet-end : tie.Need-part-copy-sheet-end Inv-loop μ-loop
-part-copy-sheet-end c = omega arith
-
-copy-sheet-requires : tie.Need-copy-sheet-requires Inv-loop μ-loop
-copy-sheet-requires c κs = (omega arith, simp (length-take, length-drop) (omega arith))
-
-add-i : tie.Need-add-i Inv-loop μ-loop
-add-i c = omega arith
-
-loop-less : tie.Need-loop-less Inv-loop μ-loop
-loop-less c = omega arith
-
-loop-again : tie.Need-loop-again Inv-loop μ-loop
-loop-again c = (omega arith, search needs)
-
-same-length : tie.Need-same-length Inv-loop μ-loop
-same-length c = omega arith
-
 returns : tie.Need-returns Inv-loop μ-loop
 returns c = tt
 
@@ -61,17 +22,17 @@ read-sheets-spec =
     (tie.spec
     Inv-loop
     μ-loop
-    loop-holds
-    small-requires
-    mul-a
-    add-copy-sheet
-    mul-copy-sheet
-    sub-copy-sheet
-    part-copy-sheet-start
-    part-copy-sheet-end
-    copy-sheet-requires
-    add-i
-    loop-less
-    loop-again
-    same-length
+    (λ c. (omega arith, refl))
+    (λ c κs. tt)
+    (λ c. omega arith)
+    (λ c. omega arith)
+    (λ c. omega arith)
+    (λ c. omega arith)
+    (λ c. omega arith)
+    (λ c. omega arith)
+    (λ c κs. (omega arith, simp (length-take, length-drop) (omega arith)))
+    (λ c. omega arith)
+    (λ c. omega arith)
+    (λ c. (omega arith, search needs))
+    (λ c. omega arith)
     returns)

@@ -10,27 +10,6 @@ Inv-loop iterated refused k₀ k = k ≤ 14
 abbrev μ-loop : tie.MeasureT-loop
 μ-loop iterated refused k₀ k = 14 - k
 
-loop-holds : tie.Need-loop-holds Inv-loop μ-loop
-loop-holds c = omega arith
-
-mul-refused : tie.Need-mul-refused Inv-loop μ-loop
-mul-refused c = omega arith
-
-array-read-refused : tie.Need-array-read-refused Inv-loop μ-loop
-array-read-refused c = omega arith
-
-refused-requires : tie.Need-refused-requires Inv-loop μ-loop
-refused-requires c κs = tt
-
-add-k : tie.Need-add-k Inv-loop μ-loop
-add-k c = omega arith
-
-loop-less : tie.Need-loop-less Inv-loop μ-loop
-loop-less c = omega arith
-
-loop-again : tie.Need-loop-again Inv-loop μ-loop
-loop-again c = omega arith
-
 returns : tie.Need-returns Inv-loop μ-loop
 returns c = tt
 
@@ -40,11 +19,11 @@ report-refused-spec =
     (tie.spec
     Inv-loop
     μ-loop
-    loop-holds
-    mul-refused
-    array-read-refused
-    refused-requires
-    add-k
-    loop-less
-    loop-again
+    (λ c. omega arith)
+    (λ c. omega arith)
+    (λ c. omega arith)
+    (λ c κs. tt)
+    (λ c. omega arith)
+    (λ c. omega arith)
+    (λ c. omega arith)
     returns)

@@ -12,38 +12,8 @@ Inv-loop file₀ x k bytes₀ i₀ file bytes i = (i ≤ k) × (length file ≡ 
 abbrev μ-loop : tie.MeasureT-loop
 μ-loop file₀ x k bytes₀ i₀ file bytes i = k - i
 
-loop-holds : tie.Need-loop-holds Inv-loop μ-loop
-loop-holds c = (omega arith, refl, refl)
-
-add-was : tie.Need-add-was Inv-loop μ-loop
-add-was c = omega arith
-
-slice-read-was : tie.Need-slice-read-was Inv-loop μ-loop
-slice-read-was c = omega arith
-
-array-read-file : tie.Need-array-read-file Inv-loop μ-loop
-array-read-file c = omega arith
-
-add-file : tie.Need-add-file Inv-loop μ-loop
-add-file c = omega arith
-
-slice-write-file : tie.Need-slice-write-file Inv-loop μ-loop
-slice-write-file c = omega arith
-
-array-write-bytes : tie.Need-array-write-bytes Inv-loop μ-loop
-array-write-bytes c = omega arith
-
-add-i : tie.Need-add-i Inv-loop μ-loop
-add-i c = omega arith
-
-loop-less : tie.Need-loop-less Inv-loop μ-loop
-loop-less c = omega arith
-
 loop-again : tie.Need-loop-again Inv-loop μ-loop
 loop-again c = let l = c .before .before .loop .inv in (omega arith, simp length-set (l .1), simp length-set (l .2))
-
-same-length : tie.Need-same-length Inv-loop μ-loop
-same-length c = omega arith
 
 returns : tie.Need-returns Inv-loop μ-loop
 returns c = tt
@@ -54,15 +24,15 @@ exchange-spec =
     (tie.spec
     Inv-loop
     μ-loop
-    loop-holds
-    add-was
-    slice-read-was
-    array-read-file
-    add-file
-    slice-write-file
-    array-write-bytes
-    add-i
-    loop-less
+    (λ c. (omega arith, refl, refl))
+    (λ c. omega arith)
+    (λ c. omega arith)
+    (λ c. omega arith)
+    (λ c. omega arith)
+    (λ c. omega arith)
+    (λ c. omega arith)
+    (λ c. omega arith)
+    (λ c. omega arith)
     loop-again
-    same-length
+    (λ c. omega arith)
     returns)

@@ -12,33 +12,6 @@ Inv-loop file₀ t₀ n₀ head₀ turns₀ file t n head turns = (length file �
 abbrev μ-loop : tie.MeasureT-loop
 μ-loop file₀ t₀ n₀ head₀ turns₀ file t n head turns = turns
 
-head-requires : tie.Need-head-requires Inv-loop μ-loop
-head-requires c κs = tt
-
-loop-holds : tie.Need-loop-holds Inv-loop μ-loop
-loop-holds c = (refl, omega arith)
-
-record-requires : tie.Need-record-requires Inv-loop μ-loop
-record-requires c κs = omega arith
-
-head-requires-2 : tie.Need-head-requires-2 Inv-loop μ-loop
-head-requires-2 c κs = tt
-
-sub-turns : tie.Need-sub-turns Inv-loop μ-loop
-sub-turns c = omega arith
-
-loop-less : tie.Need-loop-less Inv-loop μ-loop
-loop-less c = omega arith
-
-loop-again : tie.Need-loop-again Inv-loop μ-loop
-loop-again c = omega arith
-
-ended-requires : tie.Need-ended-requires Inv-loop μ-loop
-ended-requires c κs = tt
-
-same-length : tie.Need-same-length Inv-loop μ-loop
-same-length c = omega arith
-
 returns : tie.Need-returns Inv-loop μ-loop
 returns c = tt
 
@@ -48,13 +21,13 @@ records-spec =
     (tie.spec
     Inv-loop
     μ-loop
-    head-requires
-    loop-holds
-    record-requires
-    head-requires-2
-    sub-turns
-    loop-less
-    loop-again
-    ended-requires
-    same-length
+    (λ c κs. tt)
+    (λ c. (refl, omega arith))
+    (λ c κs. omega arith)
+    (λ c κs. tt)
+    (λ c. omega arith)
+    (λ c. omega arith)
+    (λ c. omega arith)
+    (λ c κs. tt)
+    (λ c. omega arith)
     returns)

@@ -10,36 +10,6 @@ Inv-loop n numbers before same₀ i₀ same i = i ≤ 32
 abbrev μ-loop : tie.MeasureT-loop
 μ-loop n numbers before same₀ i₀ same i = 32 - i
 
-loop-holds : tie.Need-loop-holds Inv-loop μ-loop
-loop-holds c = omega arith
-
-mul-due : tie.Need-mul-due Inv-loop μ-loop
-mul-due c = omega arith
-
-array-read-due : tie.Need-array-read-due Inv-loop μ-loop
-array-read-due c = omega arith
-
-double-requires : tie.Need-double-requires Inv-loop μ-loop
-double-requires c κs = tt
-
-mul-same-bits : tie.Need-mul-same-bits Inv-loop μ-loop
-mul-same-bits c = omega arith
-
-array-read-same-bits : tie.Need-array-read-same-bits Inv-loop μ-loop
-array-read-same-bits c = omega arith
-
-same-bits-requires : tie.Need-same-bits-requires Inv-loop μ-loop
-same-bits-requires c κs = tt
-
-add-i : tie.Need-add-i Inv-loop μ-loop
-add-i c = omega arith
-
-loop-less : tie.Need-loop-less Inv-loop μ-loop
-loop-less c = omega arith
-
-loop-again : tie.Need-loop-again Inv-loop μ-loop
-loop-again c = omega arith
-
 returns : tie.Need-returns Inv-loop μ-loop
 returns c = tt
 
@@ -49,14 +19,14 @@ same-numbers-spec =
     (tie.spec
     Inv-loop
     μ-loop
-    loop-holds
-    mul-due
-    array-read-due
-    double-requires
-    mul-same-bits
-    array-read-same-bits
-    same-bits-requires
-    add-i
-    loop-less
-    loop-again
+    (λ c. omega arith)
+    (λ c. omega arith)
+    (λ c. omega arith)
+    (λ c κs. tt)
+    (λ c. omega arith)
+    (λ c. omega arith)
+    (λ c κs. tt)
+    (λ c. omega arith)
+    (λ c. omega arith)
+    (λ c. omega arith)
     returns)

@@ -9,33 +9,6 @@ Inv-loop t₀ head₀ turns₀ t head turns = Unit {0}
 abbrev μ-loop : tie.MeasureT-loop
 μ-loop t₀ head₀ turns₀ t head turns = turns
 
-head-requires : tie.Need-head-requires Inv-loop μ-loop
-head-requires c κs = tt
-
-loop-holds : tie.Need-loop-holds Inv-loop μ-loop
-loop-holds c = tt
-
-record-requires : tie.Need-record-requires Inv-loop μ-loop
-record-requires c κs = tt
-
-head-requires-2 : tie.Need-head-requires-2 Inv-loop μ-loop
-head-requires-2 c κs = tt
-
-sub-turns : tie.Need-sub-turns Inv-loop μ-loop
-sub-turns c = omega arith
-
-loop-less : tie.Need-loop-less Inv-loop μ-loop
-loop-less c = omega arith
-
-loop-again : tie.Need-loop-again Inv-loop μ-loop
-loop-again c = tt
-
-ended-requires : tie.Need-ended-requires Inv-loop μ-loop
-ended-requires c κs = tt
-
-report-requires : tie.Need-report-requires Inv-loop μ-loop
-report-requires c κs = tt
-
 returns : tie.Need-returns Inv-loop μ-loop
 returns c = tt
 
@@ -45,13 +18,13 @@ main-spec =
     (tie.spec
     Inv-loop
     μ-loop
-    head-requires
-    loop-holds
-    record-requires
-    head-requires-2
-    sub-turns
-    loop-less
-    loop-again
-    ended-requires
-    report-requires
+    (λ c κs. tt)
+    (λ c. tt)
+    (λ c κs. tt)
+    (λ c κs. tt)
+    (λ c. omega arith)
+    (λ c. omega arith)
+    (λ c. tt)
+    (λ c κs. tt)
+    (λ c κs. tt)
     returns)

@@ -12,29 +12,11 @@ Inv-loop w h rows m order inv-s held₀ i₀ held i = i ≤ rows
 abbrev μ-loop : tie.MeasureT-loop
 μ-loop w h rows m order inv-s held₀ i₀ held i = rows - i
 
-loop-holds : tie.Need-loop-holds Inv-loop μ-loop
-loop-holds c = omega arith
-
 array-share-prefix-order : tie.Need-array-share-prefix-order Inv-loop μ-loop
 array-share-prefix-order c = let a = c .before .before .before .before .before in omega (arith, length-take (a .args .m) (a .args .r .order), a .pre .3)
 
-slice-aggregate-leverage : tie.Need-slice-aggregate-leverage Inv-loop μ-loop
-slice-aggregate-leverage c = sym (c .before .before .before .before .before .before .pre .3)
-
 leverage-requires : tie.Need-leverage-requires Inv-loop μ-loop
 leverage-requires c κs = (c .before .before .before .before .before .before .before .pre .2, omega arith)
-
-hold-requires : tie.Need-hold-requires Inv-loop μ-loop
-hold-requires c κs = tt
-
-add-i : tie.Need-add-i Inv-loop μ-loop
-add-i c = omega arith
-
-loop-less : tie.Need-loop-less Inv-loop μ-loop
-loop-less c = omega arith
-
-loop-again : tie.Need-loop-again Inv-loop μ-loop
-loop-again c = omega arith
 
 returns : tie.Need-returns Inv-loop μ-loop
 returns c = tt
@@ -45,12 +27,12 @@ hold-leverage-spec =
     (tie.spec
     Inv-loop
     μ-loop
-    loop-holds
+    (λ c. omega arith)
     array-share-prefix-order
-    slice-aggregate-leverage
+    (λ c. sym (c .before .before .before .before .before .before .pre .3))
     leverage-requires
-    hold-requires
-    add-i
-    loop-less
-    loop-again
+    (λ c κs. tt)
+    (λ c. omega arith)
+    (λ c. omega arith)
+    (λ c. omega arith)
     returns)

@@ -8,18 +8,6 @@ use native.Mathlib.Omega.{arith}
 use Rattle.replay_solves.proofs.solve.Statement.{statement}
 use Rattle.replay_solves.proofs.solve.Tie as tie
 
-read-matrix-requires : tie.Need-read-matrix-requires
-read-matrix-requires c κs = search needs
-
-read-residuals-requires : tie.Need-read-residuals-requires
-read-residuals-requires c κs = search needs
-
-add-solve-damped : tie.Need-add-solve-damped
-add-solve-damped c = search needs
-
-add-solve-damped-2 : tie.Need-add-solve-damped-2
-add-solve-damped-2 c = search needs
-
 solve-damped-requires : tie.Need-solve-damped-requires
 solve-damped-requires c κs =
     let a = c .before .before .before .before .before .before .before .before .before .before in
@@ -32,12 +20,6 @@ hold-solve-requires c κs =
       subst (λ (s : Solved). Ordered (a .args .head .m) (s .outcome .order)) (sym (c .before .before .before .solve-damped .ensures .0)) (damped-ordered _ _ _ _ _ _ _),
     )
 
-count-requires : tie.Need-count-requires
-count-requires c κs = search needs
-
-same-length : tie.Need-same-length
-same-length c = search needs
-
 returns : tie.Need-returns
 returns c = search needs
 
@@ -45,12 +27,12 @@ pub solve-spec : {M : Type 1} → statement M
 solve-spec =
     tie.close
     (tie.spec
-    read-matrix-requires
-    read-residuals-requires
-    add-solve-damped
-    add-solve-damped-2
+    (λ c κs. search needs)
+    (λ c κs. search needs)
+    (λ c. search needs)
+    (λ c. search needs)
     solve-damped-requires
     hold-solve-requires
-    count-requires
-    same-length
+    (λ c κs. search needs)
+    (λ c. search needs)
     returns)

@@ -1,44 +1,38 @@
 -- `sequence::fill` meets its contract. The invariant: the first i numbers are x, and the others are as they were. Assumes nothing.
 use Prim.Native.Nat.{_≤_, _-_}
 use native.Mathlib.Omega.{arith}
-use mathlib.Core.Path.{_≡_, refl}
-use mathlib.Core.List.{_++_}
-use lib.ListN.{length, drop, replicate, length-set}
-use Rattle.sequence.proofs.Fills.{fill-step, fill-end}
+use native.Mathlib.Numerals.{add-one}
+use mathlib.Core.Path.{_≡_, refl, sym}
+use lib.ListN.{length, replicate, length-replicate, getD-replicate}
+use lib.Ieee.{nan}
+use Rattle.sequence.proofs.Partway.{Partway, start, step, end}
 use Rattle.sequence.proofs.fill.Statement.{statement}
 use Rattle.sequence.proofs.fill.Tie as tie
 
 abbrev Inv-loop : tie.InvT-loop
-Inv-loop s₀ x i₀ i-end s i = (i ≤ i-end) × (i-end ≡ length s₀) × (length s ≡ length s₀) × (s ≡ replicate i x ++ drop i s₀)
+Inv-loop s₀ x i₀ i-end s i = (i ≤ i-end) × (i-end ≡ length s₀) × Partway s₀ (replicate (length s₀) x) i s
 
 abbrev μ-loop : tie.MeasureT-loop
 μ-loop s₀ x i₀ i-end s i = i-end - i
 
-loop-holds : tie.Need-loop-holds Inv-loop μ-loop
-loop-holds c = (omega arith, refl, refl, refl)
-
-mul-s : tie.Need-mul-s Inv-loop μ-loop
-mul-s c = omega arith
-
-slice-write-s : tie.Need-slice-write-s Inv-loop μ-loop
-slice-write-s c = omega arith
-
-add-i : tie.Need-add-i Inv-loop μ-loop
-add-i c = omega arith
-
-loop-less : tie.Need-loop-less Inv-loop μ-loop
-loop-less c = omega arith
-
 loop-again : tie.Need-loop-again Inv-loop μ-loop
 loop-again c =
     let u = c .before .loop in
-    (omega arith, omega arith, simp length-set (u .inv .2), fill-step _ (u .i) _ (u .s) (omega arith) (u .inv .3))
-
-same-length : tie.Need-same-length Inv-loop μ-loop
-same-length c = omega arith
-
-returns : tie.Need-returns Inv-loop μ-loop
-returns c = let u = c .before .loop in fill-end _ (u .i) _ (u .s) (omega arith) (u .inv .3)
+    let a = c .before .before .args in
+    let e = sym (getD-replicate (length (a .s .now)) (u .i) (a .x) nan (omega arith)) in
+    (omega arith, u .inv .1, rw (add-one (u .i)) (step _ _ (u .i) (u .s) _ nan (omega arith) (u .inv .2) e))
 
 pub fill-spec : {M : Type 1} → statement M
-fill-spec = tie.close (tie.spec Inv-loop μ-loop loop-holds mul-s slice-write-s add-i loop-less loop-again same-length returns)
+fill-spec =
+    tie.close
+    (tie.spec
+    Inv-loop
+    μ-loop
+    (λ c. (omega arith, refl, start _ _ (length-replicate _ _)))
+    (λ c. omega arith)
+    (λ c. omega arith)
+    (λ c. omega arith)
+    (λ c. omega arith)
+    loop-again
+    (λ c. omega arith)
+    (λ c. end _ _ (c .before .loop .i) (c .before .loop .s) (omega arith) (c .before .loop .inv .2)))

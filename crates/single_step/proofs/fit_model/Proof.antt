@@ -1,68 +1,54 @@
 -- `single_step::fit_model` meets its contract. Assumes nothing.
-use mathlib.Core.Path.{ap, _∙_}
-use Rattle.solver.specs.Call.{inputs, buffers, sizesOf}
-use Rattle.validate.specs.Questions.{asked, noOptions}
+use native.Mathlib.Omega.{arith}
+use Rattle.solver.specs.Call.{FitInputs, inputs, Buffers, buffers, sizesOf}
 use Rattle.validate.proofs.Passed.{ready}
 use Rattle.single_step.proofs.Outcome.{refused, accepted}
 use borrow.Author.Needs.{needs}
 use Rattle.single_step.proofs.fit_model.Statement.{statement}
 use Rattle.single_step.proofs.fit_model.Tie as tie
 
-no-options-requires : tie.Need-no-options-requires
-no-options-requires c κs = search needs
+abbrev start : tie.After-questions → tie.Start
+start c = c .before .before .before .before .before .before .before .before .before .before .before .before .before .before
 
-questions-requires : tie.Need-questions-requires
-questions-requires c κs = search needs
+abbrev call : tie.Start → FitInputs
+call s =
+    let a = s .args in
+    inputs (a .names .now) (a .fixed .now) (a .coefficients .now) (a .dh .now) (a .dd .now) (a .pier .now) (a .sheets .now) (a .settings)
 
-enum-known-asked : tie.Need-enum-known-asked
-enum-known-asked c = search needs
-
-enum-known-asked-2 : tie.Need-enum-known-asked-2
-enum-known-asked-2 c = search needs
+abbrev lent : tie.Start → Buffers
+lent s = let a = s .args in buffers (a .out .now) (a .change .now) (a .sigma .now) (a .diagnostics .now) (a .scratch .now)
 
 fit-requires : tie.Need-fit-requires
 fit-requires c κs =
-    let a = c .before .before .before .before .before .before .before .before .before .before .before .before .before .before .before .before .before .before .before .before .before .before .args in
-    ready (inputs (a .names .now) (a .fixed .now) (a .coefficients .now) (a .dh .now) (a .dd .now) (a .pier .now) (a .sheets .now) (a .sin-lat) (a .cos-lat) (a .fit-tol)) noOptions (sizesOf (buffers (a .out .now) (a .change .now) (a .sigma .now) (a .diagnostics .now) (a .scratch .now))) _ _ (c .before .before .before .before .before .before .asked2 .given .1) (c .before .before .before .before .before .before .before .before .questions .ensures ∙ ap (λ o. asked (inputs (a .names .now) (a .fixed .now) (a .coefficients .now) (a .dh .now) (a .dd .now) (a .pier .now) (a .sheets .now) (a .sin-lat) (a .cos-lat) (a .fit-tol)) o (sizesOf (buffers (a .out .now) (a .change .now) (a .sigma .now) (a .diagnostics .now) (a .scratch .now)))) (c .before .before .before .before .before .before .before .before .before .no-options .ensures))
+    let told = c .before .before .before .before .before in
+    let q = told .before .before in
+    ready (call (start q)) _ (sizesOf (lent (start q))) _ (told .enum-told .given .1) (q .questions .ensures)
 
 returns : tie.Need-returns
 returns c =
-    let a = c .before .before .before .before .before .before .before .before .before .before .before .before .before .before .before .before .before .args in
-    refused (inputs (a .names .now) (a .fixed .now) (a .coefficients .now) (a .dh .now) (a .dd .now) (a .pier .now) (a .sheets .now) (a .sin-lat) (a .cos-lat) (a .fit-tol)) (buffers (a .out .now) (a .change .now) (a .sigma .now) (a .diagnostics .now) (a .scratch .now)) _ _ (c .before .asked .given .1) (c .before .before .before .questions .ensures ∙ ap (λ o. asked (inputs (a .names .now) (a .fixed .now) (a .coefficients .now) (a .dh .now) (a .dd .now) (a .pier .now) (a .sheets .now) (a .sin-lat) (a .cos-lat) (a .fit-tol)) o (sizesOf (buffers (a .out .now) (a .change .now) (a .sigma .now) (a .diagnostics .now) (a .scratch .now)))) (c .before .before .before .before .no-options .ensures))
-
-same-length : tie.Need-same-length
-same-length c = search needs
-
-same-length-2 : tie.Need-same-length-2
-same-length-2 c = search needs
-
-same-length-3 : tie.Need-same-length-3
-same-length-3 c = search needs
-
-same-length-4 : tie.Need-same-length-4
-same-length-4 c = search needs
-
-same-length-5 : tie.Need-same-length-5
-same-length-5 c = search needs
+    let q = c .before .before .before in
+    refused (call (start q)) (lent (start q)) _ (q .before .no-options .ensures) _ (q .questions .ensures) _ (c .before .asked .given .1)
 
 returns-2 : tie.Need-returns-2
 returns-2 c =
-    let a = c .before .before .before .before .before .before .before .before .before .before .before .before .before .before .before .before .before .before .before .before .before .before .before .before .before .before .before .before .before .before .before .before .before .args in
-    accepted (inputs (a .names .now) (a .fixed .now) (a .coefficients .now) (a .dh .now) (a .dd .now) (a .pier .now) (a .sheets .now) (a .sin-lat) (a .cos-lat) (a .fit-tol)) (buffers (a .out .now) (a .change .now) (a .sigma .now) (a .diagnostics .now) (a .scratch .now)) _ _ _ (c .before .before .before .before .before .before .before .before .before .before .before .before .before .before .before .before .before .asked2 .given .1) (c .before .before .before .before .before .before .before .before .before .before .before .before .before .before .before .before .before .before .before .questions .ensures ∙ ap (λ o. asked (inputs (a .names .now) (a .fixed .now) (a .coefficients .now) (a .dh .now) (a .dd .now) (a .pier .now) (a .sheets .now) (a .sin-lat) (a .cos-lat) (a .fit-tol)) o (sizesOf (buffers (a .out .now) (a .change .now) (a .sigma .now) (a .diagnostics .now) (a .scratch .now)))) (c .before .before .before .before .before .before .before .before .before .before .before .before .before .before .before .before .before .before .before .before .no-options .ensures)) (c .before .before .before .before .before .before .before .before .before .before .fit .ensures)
+    let fit = c .before .before .before .before .before .before .before .before .before .before in
+    let told = fit .before .before .before .before .before .before in
+    let q = told .before .before in
+    accepted (call (start q)) (lent (start q)) _ (q .before .no-options .ensures) _ (q .questions .ensures) _ (told .enum-told .given .1) (fit .fit .ensures)
 
 pub fit-model-spec : {M : Type 1} → statement M
 fit-model-spec =
     tie.close
     (tie.spec
-    no-options-requires
-    questions-requires
-    enum-known-asked
-    enum-known-asked-2
+    (λ c κs. omega arith)
+    (λ c κs. omega arith)
+    (λ c. search needs)
+    (λ c. search needs)
     fit-requires
     returns
-    same-length
-    same-length-2
-    same-length-3
-    same-length-4
-    same-length-5
+    (λ c. omega arith)
+    (λ c. omega arith)
+    (λ c. omega arith)
+    (λ c. omega arith)
+    (λ c. omega arith)
     returns-2)

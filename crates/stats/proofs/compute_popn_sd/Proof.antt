@@ -1,5 +1,4 @@
 -- `stats::compute_popn_sd` meets its contract. Assumes nothing.
-use Prim.Native.Nat.{_-_}
 use mathlib.Core.Path.{refl, _∙_}
 use borrow.Author.Tests.{le-leb, lt-leb}
 use Rattle.float.proofs.Bits.{whole-in}
@@ -8,22 +7,10 @@ use native.Mathlib.Omega.{arith}
 use Rattle.stats.proofs.compute_popn_sd.Statement.{statement}
 use Rattle.stats.proofs.compute_popn_sd.Tie as tie
 
-returns : tie.Need-returns
-returns c = rw (le-leb _ _ (c .if1 .taken)) refl
-
-sub-sqrt : tie.Need-sub-sqrt
-sub-sqrt c = search needs
-
-int-to-float-sqrt : tie.Need-int-to-float-sqrt
-int-to-float-sqrt c = whole-in (let a = c .before .before .args in a .n - a .n-free) (omega arith)
-
-sqrt-requires : tie.Need-sqrt-requires
-sqrt-requires c κs = search needs
-
 returns-2 : tie.Need-returns-2
 returns-2 c = c .sqrt .ensures ∙ rw (lt-leb _ _ (c .before .before .if1 .left)) refl
 
 pub compute-popn-sd-spec : {M : Type 1} → statement M
 compute-popn-sd-spec =
     tie.close
-    (tie.spec returns sub-sqrt int-to-float-sqrt sqrt-requires returns-2)
+    (tie.spec (λ c. rw (le-leb _ _ (c .if1 .taken)) refl) (λ c. search needs) (λ c. whole-in _ (omega arith)) (λ c κs. search needs) returns-2)

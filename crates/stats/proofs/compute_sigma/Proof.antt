@@ -1,85 +1,54 @@
--- `stats::compute_sigma` meets its contract. The invariant: the first j places are filled, and fi counts the free terms among them. Assumes nothing.
-use Prim.Native.Nat.{_≤_, _-_}
-use mathlib.Core.Path.{_≡_, refl, _∙_}
-use mathlib.Core.Logic.{inl, inr}
-use borrow.Author.Tests.{eq-eqb, ne-eqb}
-use lib.ListN.{length, replicate, length-set}
-use Rattle.float.specs.Float.{#0}
-use Rattle.sequence.specs.Sequence.{filled}
-use Rattle.sequence.proofs.Fills.{filled-none, filled-end, stored}
-use Rattle.design.specs.Design.{freeBefore}
-use Rattle.design.proofs.Free.{free-none, free-next, taken-next, free-few}
+-- `stats::compute_sigma` meets its contract. The invariant: the sigmas of the first i free terms are set. Assumes nothing.
+use Prim.Native.Nat.{ℕ, _-_, _≤_, _<_}
+use mathlib.Core.Path.{_≡_, refl}
+use mathlib.Core.List.{List}
+use lib.ListN.{length, getD, set, length-set}
+use lib.Ieee.{Float}
+use Rattle.sequence.specs.Sequence.{each}
+use Rattle.sequence.proofs.Fills.{each-none, each-next, each-end}
+use Rattle.design.specs.Design.{scattered}
 use Rattle.stats.specs.Stats.{sigmaAt}
 use native.Mathlib.Omega.{arith}
 use Rattle.stats.proofs.compute_sigma.Statement.{statement}
 use Rattle.stats.proofs.compute_sigma.Tie as tie
 
+-- the turn of free term i
+abbrev turn : List ℕ → Float → List Float → ℕ → List Float → List Float
+turn free s2 cov i t = set t (getD free i 0) (sigmaAt s2 cov i)
+
 abbrev Inv-loop : tie.InvT-loop
-Inv-loop fixed m s2 cov-diag sigma₀ fi₀ j₀ sigma fi j = (j ≤ m) × (length sigma ≡ 32) × (fi ≡ freeBefore fixed j) × (sigma ≡ filled j (sigmaAt fixed s2 cov-diag) (replicate 32 #0))
+Inv-loop free s2 cov-diag sigma₀ i₀ i-end sigma i =
+    (i-end ≡ length free) × (i ≤ i-end) × (length sigma ≡ length sigma₀) × (sigma ≡ each i 0 (turn free s2 cov-diag) sigma₀)
 
 abbrev μ-loop : tie.MeasureT-loop
-μ-loop fixed m s2 cov-diag sigma₀ fi₀ j₀ sigma fi j = m - j
+μ-loop free s2 cov-diag sigma₀ i₀ i-end sigma i = i-end - i
 
-loop-holds : tie.Need-loop-holds Inv-loop μ-loop
-loop-holds c = (omega arith, refl, free-none _, filled-none _ _)
-
-shared-slice-read-if1 : tie.Need-shared-slice-read-if1 Inv-loop μ-loop
-shared-slice-read-if1 c = omega arith
-
-mul-abs : tie.Need-mul-abs Inv-loop μ-loop
-mul-abs c = let u = c .before .before .before in omega (arith, free-few (u .before .before .args .fixed .now) (u .loop .j))
-
-array-read-abs : tie.Need-array-read-abs Inv-loop μ-loop
-array-read-abs c = let u = c .before .before .before in omega (arith, free-few (u .before .before .args .fixed .now) (u .loop .j))
-
-abs-requires : tie.Need-abs-requires Inv-loop μ-loop
-abs-requires c κs = omega arith
-
-sqrt-requires : tie.Need-sqrt-requires Inv-loop μ-loop
-sqrt-requires c κs = omega arith
-
-mul-sigma : tie.Need-mul-sigma Inv-loop μ-loop
-mul-sigma c = omega arith
-
-array-write-sigma : tie.Need-array-write-sigma Inv-loop μ-loop
-array-write-sigma c = omega arith
-
-add-fi : tie.Need-add-fi Inv-loop μ-loop
-add-fi c = let u = c .before .before .before .before .before in omega (arith, free-few (u .before .before .args .fixed .now) (u .loop .j))
-
-mul-sigma-2 : tie.Need-mul-sigma-2 Inv-loop μ-loop
-mul-sigma-2 c = omega arith
-
-array-write-sigma-2 : tie.Need-array-write-sigma-2 Inv-loop μ-loop
-array-write-sigma-2 c = omega arith
-
-add-j : tie.Need-add-j Inv-loop μ-loop
-add-j c = omega arith
-
-loop-less : tie.Need-loop-less Inv-loop μ-loop
-loop-less c = omega arith
+-- the index has a place
+below : (c : tie.After-sqrt Inv-loop μ-loop)
+    → c .before .before .before .index .result < length (c .before .before .before .before .before .before .loop .sigma)
+below c =
+    let u = c .before .before .before .before .before .before in
+    let h = u .before .before .before .pre .1 (u .loop .i) (omega arith) in
+    omega (arith, c .before .before .before .index .ensures, h)
 
 loop-again : tie.Need-loop-again Inv-loop μ-loop
 loop-again c =
-    let u = c .before .before .before in
-    let a = u .before .before .args in
-    let f = sigmaAt (a .fixed .now) (a .s2) (a .t4) in
-    elim (c .if1 .came) [
-      | inl w ↦
-          let free = eq-eqb _ _ (w .0 .taken) in
-          let v : w .2 .result ≡ f (u .loop .j) = unfold sigmaAt in w .2 .ensures ∙ rw (free, w .1 .ensures, u .loop .inv .2) refl in
-          (omega arith, rw (w .3) (simp length-set (u .loop .inv .1)), omega (arith, free-next (a .fixed .now) (u .loop .j) free), rw (w .3) (stored f (u .loop .j) (replicate 32 #0) (u .loop .sigma) (w .2 .result) (omega arith) (u .loop .inv .3) v))
-      | inr w ↦
-          let fixed = ne-eqb _ _ (w .0 .left) in
-          let v : #0 ≡ f (u .loop .j) = unfold sigmaAt in rw fixed refl in
-          (omega arith, rw (w .1) (simp length-set (u .loop .inv .1)), omega (arith, taken-next (a .fixed .now) (u .loop .j) fixed), rw (w .1) (stored f (u .loop .j) (replicate 32 #0) (u .loop .sigma) #0 (omega arith) (u .loop .inv .3) v))
-    ]
+    let u = c .before .before .before .before .before .before in
+    let a = u .before .before .before .args in
+    let f = turn (a .free .now) (a .s2) (a .cov-diag .now) in
+    let place = c .before .before .before .index .ensures in (
+      refl,
+      omega arith,
+      simp length-set (u .loop .inv .2),
+      each-next (u .loop .i) f (a .sigma .now) (u .loop .sigma) _ (u .loop .inv .3) (rw (place, c .sqrt .ensures, c .before .abs .ensures) refl),
+    )
 
 returns : tie.Need-returns Inv-loop μ-loop
+unfolding scattered
 returns c =
     let u = c .before .loop in
-    let a = c .before .before .before .args in
-    filled-end (sigmaAt (a .fixed .now) (a .s2) (a .t4)) (u .j) (a .m) (replicate 32 #0) (u .sigma) (omega arith) (omega arith) (u .inv .3)
+    let a = c .before .before .before .before .args in
+    each-end (u .i) (length (a .free .now)) (turn (a .free .now) (a .s2) (a .cov-diag .now)) (a .sigma .now) (u .sigma) (omega arith) (omega arith) (u .inv .3)
 
 pub compute-sigma-spec : {M : Type 1} → statement M
 compute-sigma-spec =
@@ -87,18 +56,18 @@ compute-sigma-spec =
     (tie.spec
     Inv-loop
     μ-loop
-    loop-holds
-    shared-slice-read-if1
-    mul-abs
-    array-read-abs
-    abs-requires
-    sqrt-requires
-    mul-sigma
-    array-write-sigma
-    add-fi
-    mul-sigma-2
-    array-write-sigma-2
-    add-j
-    loop-less
+    (λ c. (refl, omega arith, refl, each-none _ _))
+    (λ c. omega arith)
+    (λ c. omega arith)
+    (λ c κs. omega arith)
+    (λ c. omega arith)
+    (λ c. omega arith)
+    (λ c κs. omega arith)
+    (λ c κs. omega arith)
+    (λ c. omega (arith, below c))
+    (λ c. below c)
+    (λ c. omega arith)
+    (λ c. omega arith)
     loop-again
+    (λ c. omega arith)
     returns)

@@ -1,5 +1,5 @@
 -- `stats::compute_sky_rms` meets its contract. Assumes nothing.
-use Prim.Native.Nat.{ℕ, _-_, _≤_, _<_}
+use Prim.Native.Nat.{ℕ, _≤_, _<_}
 use mathlib.Core.Path.{_≡_, refl, _∙_}
 use borrow.Author.Tests.{le-leb, lt-leb}
 use Rattle.float.proofs.Bits.{whole-in}
@@ -14,18 +14,9 @@ zero-le-of e = omega arith
 pos-of : {n : ℕ} → (n ≡ 0 → ⊥) → 0 < n
 pos-of h = omega arith
 
-returns : tie.Need-returns
-returns c = rw (le-leb _ _ (zero-le-of (c .if1 .taken))) refl
-
-int-to-float-sqrt : tie.Need-int-to-float-sqrt
-int-to-float-sqrt c = whole-in (c .before .before .args .n) (omega arith)
-
-sqrt-requires : tie.Need-sqrt-requires
-sqrt-requires c κs = search needs
-
 returns-2 : tie.Need-returns-2
 returns-2 c = c .sqrt .ensures ∙ rw (lt-leb _ _ (pos-of (c .before .before .if1 .left))) refl
 
 pub compute-sky-rms-spec : {M : Type 1} → statement M
 compute-sky-rms-spec =
-    tie.close (tie.spec returns int-to-float-sqrt sqrt-requires returns-2)
+    tie.close (tie.spec (λ c. rw (le-leb _ _ (zero-le-of (c .if1 .taken))) refl) (λ c. whole-in _ (omega arith)) (λ c κs. search needs) returns-2)

@@ -5,38 +5,24 @@ use borrow.Author.Needs.{needs}
 use Rattle.stats.proofs.diagnostic.Statement.{statement}
 use Rattle.stats.proofs.diagnostic.Tie as tie
 
-clamped-requires : tie.Need-clamped-requires
-clamped-requires c κs = search needs
-
-clamped-requires-2 : tie.Need-clamped-requires-2
-clamped-requires-2 c κs = search needs
-
-studentized-row-requires : tie.Need-studentized-row-requires
-studentized-row-requires c κs = search needs
-
-studentized-row-requires-2 : tie.Need-studentized-row-requires-2
-studentized-row-requires-2 c κs = search needs
-
-sqrt-requires : tie.Need-sqrt-requires
-sqrt-requires c κs = search needs
-
-sqrt-requires-2 : tie.Need-sqrt-requires-2
-sqrt-requires-2 c κs = search needs
-
 returns : tie.Need-returns
 unfolding diagnostic
 returns c =
-    let a = c .before .before .before .before .before in
-    rw (c .sqrt2 .ensures, c .before .sqrt .ensures, c .before .before .studentized-row2 .ensures, c .before .before .before .studentized-row .ensures, c .before .before .before .before .clamped2 .ensures, a .clamped .ensures) refl
+    let t2 = c .before .before in
+    let t1 = t2 .before in
+    let h2 = t1 .before in
+    let h1 = h2 .before in
+    rw (c .sqrt2 .ensures, c .before .sqrt .ensures, t2 .studentized-row2 .ensures, t1 .studentized-row .ensures, h2 .clamped2 .ensures, h1 .clamped .ensures)
+    refl
 
 pub diagnostic-spec : {M : Type 1} → statement M
 diagnostic-spec =
     tie.close
     (tie.spec
-    clamped-requires
-    clamped-requires-2
-    studentized-row-requires
-    studentized-row-requires-2
-    sqrt-requires
-    sqrt-requires-2
+    (λ c κs. search needs)
+    (λ c κs. search needs)
+    (λ c κs. search needs)
+    (λ c κs. search needs)
+    (λ c κs. search needs)
+    (λ c κs. search needs)
     returns)

@@ -4,14 +4,8 @@ use borrow.Author.Needs.{needs}
 use Rattle.stats.proofs.sky_of_sum.Statement.{statement}
 use Rattle.stats.proofs.sky_of_sum.Tie as tie
 
-compute-sky-rms-requires : tie.Need-compute-sky-rms-requires
-compute-sky-rms-requires c κs = search needs
-
-compute-popn-sd-requires : tie.Need-compute-popn-sd-requires
-compute-popn-sd-requires c κs = search needs
-
 returns : tie.Need-returns
 returns c = rw (c .before .compute-sky-rms .ensures, c .compute-popn-sd .ensures) refl
 
 pub sky-of-sum-spec : {M : Type 1} → statement M
-sky-of-sum-spec = tie.close (tie.spec compute-sky-rms-requires compute-popn-sd-requires returns)
+sky-of-sum-spec = tie.close (tie.spec (λ c κs. search needs) (λ c κs. search needs) returns)

@@ -5,9 +5,6 @@ use borrow.Author.Needs.{needs}
 use Rattle.stats.proofs.studentized_row.Statement.{statement}
 use Rattle.stats.proofs.studentized_row.Tie as tie
 
-sqrt-requires : tie.Need-sqrt-requires
-sqrt-requires c κs = search needs
-
 returns : tie.Need-returns
 unfolding studentizedRow
 returns c = rw (c .before .before .if1 .taken, c .before .if2 .taken, c .sqrt .ensures) refl
@@ -21,4 +18,4 @@ unfolding studentizedRow
 returns-3 c = rw (c .if1 .left) refl
 
 pub studentized-row-spec : {M : Type 1} → statement M
-studentized-row-spec = tie.close (tie.spec sqrt-requires returns returns-2 returns-3)
+studentized-row-spec = tie.close (tie.spec (λ c κs. search needs) returns returns-2 returns-3)

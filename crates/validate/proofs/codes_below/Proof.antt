@@ -15,23 +15,13 @@ Inv-loop s k i₀ i-end i = (i-end ≡ length s) × (i ≤ length s) × From (λ
 abbrev μ-loop : tie.MeasureT-loop
 μ-loop s k i₀ i-end i = length s - i
 
-loop-holds : tie.Need-loop-holds Inv-loop μ-loop
-loop-holds c = (refl, omega arith, refl)
-
-shared-slice-read-if1 : tie.Need-shared-slice-read-if1 Inv-loop μ-loop
-shared-slice-read-if1 c = omega arith
-
 returns : tie.Need-returns Inv-loop μ-loop
 returns c = let u = c .before .before .before .loop in every-stop _ _ (u .i) 0 (omega arith) (le-ltb _ _ (c .if1 .taken)) (u .inv .2)
 
-add-i : tie.Need-add-i Inv-loop μ-loop
-add-i c = omega arith
-
-loop-less : tie.Need-loop-less Inv-loop μ-loop
-loop-less c = omega arith
-
 loop-again : tie.Need-loop-again Inv-loop μ-loop
-loop-again c = let u = c .before .before .before .loop in (u .inv .0, omega arith, every-step _ _ (u .i) 0 (omega arith) (lt-ltb _ _ (c .if1 .left)) (u .inv .2))
+loop-again c =
+    let u = c .before .before .before .loop in
+    (u .inv .0, omega arith, every-step _ _ (u .i) 0 (omega arith) (lt-ltb _ _ (c .if1 .left)) (u .inv .2))
 
 returns-2 : tie.Need-returns-2 Inv-loop μ-loop
 returns-2 c = let u = c .before .loop in every-end _ _ (u .i) (omega arith) (u .inv .2)
@@ -42,10 +32,10 @@ codes-below-spec =
     (tie.spec
     Inv-loop
     μ-loop
-    loop-holds
-    shared-slice-read-if1
+    (λ c. (refl, omega arith, refl))
+    (λ c. omega arith)
     returns
-    add-i
-    loop-less
+    (λ c. omega arith)
+    (λ c. omega arith)
     loop-again
     returns-2)

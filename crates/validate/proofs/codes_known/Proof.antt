@@ -6,15 +6,9 @@ use borrow.Author.Needs.{needs}
 use Rattle.validate.proofs.codes_known.Statement.{statement}
 use Rattle.validate.proofs.codes_known.Tie as tie
 
-codes-below-requires : tie.Need-codes-below-requires
-codes-below-requires c κs = search needs
-
 returns : tie.Need-returns
 unfolding codesKnown
 returns c = sym (failed _ (was-no (c .before .codes-below .ensures) (c .if1 .taken)))
-
-codes-below-requires-2 : tie.Need-codes-below-requires-2
-codes-below-requires-2 c κs = search needs
 
 returns-2 : tie.Need-returns-2
 unfolding codesKnown
@@ -22,4 +16,4 @@ returns-2 c = decides (was-yes (c .before .before .codes-below .ensures) (c .bef
 
 pub codes-known-spec : {M : Type 1} → statement M
 codes-known-spec =
-    tie.close (tie.spec codes-below-requires returns codes-below-requires-2 returns-2)
+    tie.close (tie.spec (λ c κs. search needs) returns (λ c κs. search needs) returns-2)

@@ -5,9 +5,6 @@ use borrow.Author.Needs.{needs}
 use Rattle.validate.proofs.counts_match.Statement.{statement}
 use Rattle.validate.proofs.counts_match.Tie as tie
 
-mul-if1 : tie.Need-mul-if1
-mul-if1 c = search needs
-
 returns : tie.Need-returns
 unfolding counts
 returns c = simp (ne-eqb _ _ (c .if1 .taken))
@@ -22,15 +19,20 @@ returns-3 c = simp (eq-eqb _ _ (c .before .before .if1 .left), eq-eqb _ _ (c .be
 
 returns-4 : tie.Need-returns-4
 unfolding counts
-returns-4 c = simp (eq-eqb _ _ (c .before .before .before .if1 .left), eq-eqb _ _ (c .before .before .if2 .left), eq-eqb _ _ (c .before .if3 .left), ne-eqb _ _ (c .if4 .taken))
-
-mul-result : tie.Need-mul-result
-mul-result c = search needs
+returns-4 c =
+    let m3 = c .before in
+    let m2 = m3 .before in
+    let m1 = m2 .before in
+    simp (eq-eqb _ _ (m1 .if1 .left), eq-eqb _ _ (m2 .if2 .left), eq-eqb _ _ (m3 .if3 .left), ne-eqb _ _ (c .if4 .taken))
 
 returns-5 : tie.Need-returns-5
 unfolding counts
-returns-5 c = simp (eq-eqb _ _ (c .before .before .before .if1 .left), eq-eqb _ _ (c .before .before .if2 .left), eq-eqb _ _ (c .before .if3 .left), eq-eqb _ _ (c .if4 .left))
+returns-5 c =
+    let m3 = c .before in
+    let m2 = m3 .before in
+    let m1 = m2 .before in
+    simp (eq-eqb _ _ (m1 .if1 .left), eq-eqb _ _ (m2 .if2 .left), eq-eqb _ _ (m3 .if3 .left), eq-eqb _ _ (c .if4 .left))
 
 pub counts-match-spec : {M : Type 1} → statement M
 counts-match-spec =
-    tie.close (tie.spec mul-if1 returns returns-2 returns-3 returns-4 mul-result returns-5)
+    tie.close (tie.spec (λ c. search needs) returns returns-2 returns-3 returns-4 (λ c. search needs) returns-5)

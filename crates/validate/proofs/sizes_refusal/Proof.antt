@@ -5,17 +5,13 @@ use borrow.Author.Needs.{needs}
 use Rattle.validate.proofs.sizes_refusal.Statement.{statement}
 use Rattle.validate.proofs.sizes_refusal.Tie as tie
 
-within-limits-requires : tie.Need-within-limits-requires
-within-limits-requires c κs = search needs
-
-returns : tie.Need-returns
-returns c = rw (was-no (c .before .within-limits .ensures) (c .if1 .taken))
-
 counts-match-requires : tie.Need-counts-match-requires
 counts-match-requires c κs = limits-facts _ _ (was-yes (c .before .within-limits .ensures) (c .if1 .left))
 
 returns-2 : tie.Need-returns-2
-returns-2 c = rw (was-yes (c .before .before .before .within-limits .ensures) (c .before .before .if1 .left), was-no (c .before .counts-match .ensures) (c .if2 .taken))
+returns-2 c =
+    let l = c .before .before in
+    rw (was-yes (l .before .within-limits .ensures) (l .if1 .left), was-no (c .before .counts-match .ensures) (c .if2 .taken))
 
 has-room-requires : tie.Need-has-room-requires
 has-room-requires c κs = limits-facts _ _ (was-yes (c .before .before .before .within-limits .ensures) (c .before .before .if1 .left))
@@ -42,8 +38,8 @@ pub sizes-refusal-spec : {M : Type 1} → statement M
 sizes-refusal-spec =
     tie.close
     (tie.spec
-    within-limits-requires
-    returns
+    (λ c κs. search needs)
+    (λ c. rw (was-no (c .before .within-limits .ensures) (c .if1 .taken)))
     counts-match-requires
     returns-2
     has-room-requires

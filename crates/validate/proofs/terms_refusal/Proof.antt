@@ -5,17 +5,8 @@ use borrow.Author.Needs.{needs}
 use Rattle.validate.proofs.terms_refusal.Statement.{statement}
 use Rattle.validate.proofs.terms_refusal.Tie as tie
 
-names-refusal-requires : tie.Need-names-refusal-requires
-names-refusal-requires c κs = search needs
-
-returns : tie.Need-returns
-returns c = rw (← c .before .names-refusal .ensures, ne-eqb _ 0 (c .if1 .taken))
-
 returns-2 : tie.Need-returns-2
 returns-2 c = rw (← c .before .before .names-refusal .ensures, eq-eqb _ 0 (c .before .if1 .left), c .if2 .taken)
-
-free-count-requires : tie.Need-free-count-requires
-free-count-requires c κs = search needs
 
 returns-3 : tie.Need-returns-3
 returns-3 c =
@@ -55,10 +46,10 @@ pub terms-refusal-spec : {M : Type 1} → statement M
 terms-refusal-spec =
     tie.close
     (tie.spec
-    names-refusal-requires
-    returns
+    (λ c κs. search needs)
+    (λ c. rw (← c .before .names-refusal .ensures, ne-eqb _ 0 (c .if1 .taken)))
     returns-2
-    free-count-requires
+    (λ c κs. search needs)
     returns-3
     returns-4
     returns-5)

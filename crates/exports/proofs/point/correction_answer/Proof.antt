@@ -5,18 +5,6 @@ use borrow.Author.Needs.{needs}
 use Rattle.exports.proofs.point.correction_answer.Statement.{statement}
 use Rattle.exports.proofs.point.correction_answer.Tie as tie
 
-enum-known-c : tie.Need-enum-known-c
-enum-known-c c = search needs
-
-given-pair-requires : tie.Need-given-pair-requires
-given-pair-requires c κs = search needs
-
-enum-known-c-2 : tie.Need-enum-known-c-2
-enum-known-c-2 c = search needs
-
-refused-pair-requires : tie.Need-refused-pair-requires
-refused-pair-requires c κs = search needs
-
 returns : tie.Need-returns
 returns c = c .given-pair .ensures ∙ ap correctionAnswer (sym (c .before .before .c .given .1))
 
@@ -27,9 +15,9 @@ pub correction-answer-spec : {M : Type 1} → statement M
 correction-answer-spec =
     tie.close
     (tie.spec
-    enum-known-c
-    given-pair-requires
-    enum-known-c-2
-    refused-pair-requires
+    (λ c. search needs)
+    (λ c κs. search needs)
+    (λ c. search needs)
+    (λ c κs. search needs)
     returns
     returns-2)

@@ -5,18 +5,6 @@ use borrow.Author.Needs.{needs}
 use Rattle.exports.proofs.point.pair_answer.Statement.{statement}
 use Rattle.exports.proofs.point.pair_answer.Tie as tie
 
-enum-known-j : tie.Need-enum-known-j
-enum-known-j c = search needs
-
-given-pair-requires : tie.Need-given-pair-requires
-given-pair-requires c κs = search needs
-
-enum-known-j-2 : tie.Need-enum-known-j-2
-enum-known-j-2 c = search needs
-
-refused-pair-requires : tie.Need-refused-pair-requires
-refused-pair-requires c κs = search needs
-
 returns : tie.Need-returns
 returns c = c .given-pair .ensures ∙ ap pairAnswer (sym (c .before .before .j .given .1))
 
@@ -27,9 +15,9 @@ pub pair-answer-spec : {M : Type 1} → statement M
 pair-answer-spec =
     tie.close
     (tie.spec
-    enum-known-j
-    given-pair-requires
-    enum-known-j-2
-    refused-pair-requires
+    (λ c. search needs)
+    (λ c κs. search needs)
+    (λ c. search needs)
+    (λ c κs. search needs)
     returns
     returns-2)

@@ -7,7 +7,7 @@ use native.Mathlib.Omega.{arith}
 use borrow.Author.Needs.{needs}
 use Rattle.harmonic.specs.Harmonic.{blankComponent}
 use Rattle.harmonic.specs.declared.HarmonicComponent.{HarmonicComponent}
-use Rattle.harmonic.proofs.Arrays.{unmapped}
+use Rattle.sequence.proofs.Parts.{unmapped}
 use Rattle.exports.specs.Term.{functionCode, coordinateCode, codesOf}
 use Rattle.exports.proofs.Mapped.{Mapped, mapped-next, mapped-end}
 use Rattle.exports.proofs.term.component_codes.Statement.{statement}
@@ -36,33 +36,6 @@ loop-holds c =
     let seven : length (c .args .t1) ≡ 7 = search unmapped in
     (omega arith, seven, blank _ _ _ _ seven refl, blank _ _ _ _ seven refl, blank _ _ _ _ seven refl)
 
-mul-c : tie.Need-mul-c Inv-loop μ-loop
-mul-c c = omega arith
-
-array-copy-out-c : tie.Need-array-copy-out-c Inv-loop μ-loop
-array-copy-out-c c = omega arith
-
-function-code-requires : tie.Need-function-code-requires Inv-loop μ-loop
-function-code-requires c κs = search needs
-
-array-write-functions : tie.Need-array-write-functions Inv-loop μ-loop
-array-write-functions c = omega arith
-
-coordinate-code-requires : tie.Need-coordinate-code-requires Inv-loop μ-loop
-coordinate-code-requires c κs = search needs
-
-array-write-coordinates : tie.Need-array-write-coordinates Inv-loop μ-loop
-array-write-coordinates c = omega arith
-
-array-write-frequencies : tie.Need-array-write-frequencies Inv-loop μ-loop
-array-write-frequencies c = omega arith
-
-add-i : tie.Need-add-i Inv-loop μ-loop
-add-i c = omega arith
-
-loop-less : tie.Need-loop-less Inv-loop μ-loop
-loop-less c = omega arith
-
 loop-again : tie.Need-loop-again Inv-loop μ-loop
 loop-again c =
     let l = c .before .before .before .before .loop in (
@@ -88,14 +61,14 @@ component-codes-spec =
     Inv-loop
     μ-loop
     loop-holds
-    mul-c
-    array-copy-out-c
-    function-code-requires
-    array-write-functions
-    coordinate-code-requires
-    array-write-coordinates
-    array-write-frequencies
-    add-i
-    loop-less
+    (λ c. omega arith)
+    (λ c. omega arith)
+    (λ c κs. search needs)
+    (λ c. omega arith)
+    (λ c κs. search needs)
+    (λ c. omega arith)
+    (λ c. omega arith)
+    (λ c. omega arith)
+    (λ c. omega arith)
     loop-again
     returns)

@@ -6,27 +6,9 @@ use Rattle.exports.specs.Term.{termAnswer}
 use Rattle.exports.proofs.term.term_answer.Statement.{statement}
 use Rattle.exports.proofs.term.term_answer.Tie as tie
 
-no-term-requires : tie.Need-no-term-requires
-no-term-requires c κs = search needs
-
 returns : tie.Need-returns
 unfolding termAnswer
 returns c = rw (ne-eqb _ 0 (c .before .if1 .taken), c .no-term .ensures)
-
-component-codes-requires : tie.Need-component-codes-requires
-component-codes-requires c κs = search needs
-
-kind-code-requires : tie.Need-kind-code-requires
-kind-code-requires c κs = search needs
-
-number-of-requires : tie.Need-number-of-requires
-number-of-requires c κs = search needs
-
-result-of-requires : tie.Need-result-of-requires
-result-of-requires c κs = search needs
-
-cast-t15 : tie.Need-cast-t15
-cast-t15 c = omega arith
 
 returns-2 : tie.Need-returns-2
 unfolding termAnswer
@@ -39,11 +21,11 @@ pub term-answer-spec : {M : Type 1} → statement M
 term-answer-spec =
     tie.close
     (tie.spec
-    no-term-requires
+    (λ c κs. search needs)
     returns
-    component-codes-requires
-    kind-code-requires
-    number-of-requires
-    result-of-requires
-    cast-t15
+    (λ c κs. search needs)
+    (λ c κs. search needs)
+    (λ c κs. search needs)
+    (λ c κs. search needs)
+    (λ c. omega arith)
     returns-2)

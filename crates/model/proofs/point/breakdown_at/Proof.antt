@@ -8,21 +8,9 @@ use borrow.Author.Needs.{needs}
 use Rattle.model.proofs.point.breakdown_at.Statement.{statement}
 use Rattle.model.proofs.point.breakdown_at.Tie as tie
 
-point-refusal-requires : tie.Need-point-refusal-requires
-point-refusal-requires c κs = search needs
-
-no-breakdown-requires : tie.Need-no-breakdown-requires
-no-breakdown-requires c κs = search needs
-
 returns : tie.Need-returns
 unfolding breakdownAt
 returns c = rw (← c .before .before .point-refusal .ensures, ne-eqb _ 0 (c .before .if1 .taken), c .no-breakdown .ensures)
-
-from-code-requires : tie.Need-from-code-requires
-from-code-requires c κs = search needs
-
-sign-requires : tie.Need-sign-requires
-sign-requires c κs = search needs
 
 contributions-requires : tie.Need-contributions-requires
 contributions-requires c κs =
@@ -46,10 +34,10 @@ pub breakdown-at-spec : {M : Type 1} → statement M
 breakdown-at-spec =
     tie.close
     (tie.spec
-    point-refusal-requires
-    no-breakdown-requires
+    (λ c κs. search needs)
+    (λ c κs. search needs)
     returns
-    from-code-requires
-    sign-requires
+    (λ c κs. search needs)
+    (λ c κs. search needs)
     contributions-requires
     returns-2)

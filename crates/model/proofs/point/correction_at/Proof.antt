@@ -8,18 +8,9 @@ use borrow.Author.Needs.{needs}
 use Rattle.model.proofs.point.correction_at.Statement.{statement}
 use Rattle.model.proofs.point.correction_at.Tie as tie
 
-point-refusal-requires : tie.Need-point-refusal-requires
-point-refusal-requires c κs = search needs
-
 returns : tie.Need-returns
 unfolding correctionAt
 returns c = rw (← c .before .point-refusal .ensures, ne-eqb _ 0 (c .if1 .taken))
-
-from-code-requires : tie.Need-from-code-requires
-from-code-requires c κs = search needs
-
-sign-requires : tie.Need-sign-requires
-sign-requires c κs = search needs
 
 corrected-requires : tie.Need-corrected-requires
 corrected-requires c κs =
@@ -43,9 +34,9 @@ pub correction-at-spec : {M : Type 1} → statement M
 correction-at-spec =
     tie.close
     (tie.spec
-    point-refusal-requires
+    (λ c κs. search needs)
     returns
-    from-code-requires
-    sign-requires
+    (λ c κs. search needs)
+    (λ c κs. search needs)
     corrected-requires
     returns-2)

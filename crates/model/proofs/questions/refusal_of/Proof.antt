@@ -8,12 +8,6 @@ use borrow.Author.Needs.{needs}
 use Rattle.model.proofs.questions.refusal_of.Statement.{statement}
 use Rattle.model.proofs.questions.refusal_of.Tie as tie
 
-returns : tie.Need-returns
-returns c = sym (many _ _ _ _ _ _ (c .if1 .taken))
-
-mul-if2 : tie.Need-mul-if2
-mul-if2 c = search needs
-
 returns-2 : tie.Need-returns-2
 unfolding refusalOf
 returns-2 c = rw (le-leb _ 32 (c .before .if1 .left), ne-eqb _ _ (c .if2 .taken))
@@ -23,9 +17,6 @@ unfolding refusalOf
 returns-3 c =
     let a = c .before .before .before .before .before .args in
     rw (le-leb _ 32 (c .before .before .if1 .left), eq-eqb _ _ (c .before .if2 .left), not-true (a .counted) (c .if3 .taken))
-
-all-finite-requires : tie.Need-all-finite-requires
-all-finite-requires c κs = search needs
 
 returns-4 : tie.Need-returns-4
 unfolding refusalOf
@@ -57,9 +48,6 @@ returns-6 c =
       not-true (a .known) (c .if6 .taken),
     )
 
-names-refusal-requires : tie.Need-names-refusal-requires
-names-refusal-requires c κs = search needs
-
 returns-7 : tie.Need-returns-7
 unfolding refusalOf
 returns-7 c =
@@ -81,13 +69,13 @@ pub refusal-of-spec : {M : Type 1} → statement M
 refusal-of-spec =
     tie.close
     (tie.spec
-    returns
-    mul-if2
+    (λ c. sym (many _ _ _ _ _ _ (c .if1 .taken)))
+    (λ c. search needs)
     returns-2
     returns-3
-    all-finite-requires
+    (λ c κs. search needs)
     returns-4
     returns-5
     returns-6
-    names-refusal-requires
+    (λ c κs. search needs)
     returns-7)

@@ -6,18 +6,6 @@ use borrow.Author.Needs.{needs}
 use Rattle.pmf.proofs.file.coefficients.Statement.{statement}
 use Rattle.pmf.proofs.file.coefficients.Tie as tie
 
-mul-read-doubles : tie.Need-mul-read-doubles
-mul-read-doubles c = search needs
-
-add-read-doubles : tie.Need-add-read-doubles
-add-read-doubles c = search needs
-
-array-borrow-prefix-out : tie.Need-array-borrow-prefix-out
-array-borrow-prefix-out c = search needs
-
-slice-aggregate-read-doubles : tie.Need-slice-aggregate-read-doubles
-slice-aggregate-read-doubles c = simp length-take (omega arith)
-
 read-doubles-requires : tie.Need-read-doubles-requires
 read-doubles-requires c κs =
     λ i h. let g = simp length-take at h in omega arith
@@ -29,9 +17,9 @@ pub coefficients-spec : {M : Type 1} → statement M
 coefficients-spec =
     tie.close
     (tie.spec
-    mul-read-doubles
-    add-read-doubles
-    array-borrow-prefix-out
-    slice-aggregate-read-doubles
+    (λ c. search needs)
+    (λ c. search needs)
+    (λ c. search needs)
+    (λ c. simp length-take (omega arith))
     read-doubles-requires
     returns)

@@ -6,12 +6,6 @@ use borrow.Author.Needs.{needs}
 use Rattle.pmf.proofs.file.differences.Statement.{statement}
 use Rattle.pmf.proofs.file.differences.Tie as tie
 
-array-borrow-prefix-out : tie.Need-array-borrow-prefix-out
-array-borrow-prefix-out c = search needs
-
-slice-aggregate-read-doubles : tie.Need-slice-aggregate-read-doubles
-slice-aggregate-read-doubles c = simp length-take (omega arith)
-
 read-doubles-requires : tie.Need-read-doubles-requires
 read-doubles-requires c κs =
     λ i h. let g = simp length-take at h in omega arith
@@ -22,4 +16,4 @@ returns c = lent-front _ (c .before .before .before .before .args .n) _ _ (omega
 pub differences-spec : {M : Type 1} → statement M
 differences-spec =
     tie.close
-    (tie.spec array-borrow-prefix-out slice-aggregate-read-doubles read-doubles-requires returns)
+    (tie.spec (λ c. search needs) (λ c. simp length-take (omega arith)) read-doubles-requires returns)

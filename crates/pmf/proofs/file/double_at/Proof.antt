@@ -6,12 +6,6 @@ use borrow.Author.Needs.{needs}
 use Rattle.pmf.proofs.file.double_at.Statement.{statement}
 use Rattle.pmf.proofs.file.double_at.Tie as tie
 
-u64-at-requires : tie.Need-u64-at-requires
-u64-at-requires c κs = search needs
-
-from-bits-requires : tie.Need-from-bits-requires
-from-bits-requires c κs = search needs
-
 returns : tie.Need-returns
 unfolding double
 returns c =
@@ -25,4 +19,4 @@ returns-2 c =
     rw (← bits, le-ltb _ _ (c .if1 .left)) infinity-is
 
 pub double-at-spec : {M : Type 1} → statement M
-double-at-spec = tie.close (tie.spec u64-at-requires from-bits-requires returns returns-2)
+double-at-spec = tie.close (tie.spec (λ c κs. search needs) (λ c κs. search needs) returns returns-2)

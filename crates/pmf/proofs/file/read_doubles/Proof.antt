@@ -16,9 +16,6 @@ Inv-loop s start stride out₀ i₀ i-end out i = (i ≤ i-end) × (i-end ≡ le
 abbrev μ-loop : tie.MeasureT-loop
 μ-loop s start stride out₀ i₀ i-end out i = i-end - i
 
-loop-holds : tie.Need-loop-holds Inv-loop μ-loop
-loop-holds c = (omega arith, refl, refl, filled-none _ _)
-
 mul-double-at : tie.Need-mul-double-at Inv-loop μ-loop
 mul-double-at c = omega (arith, c .before .before .before .before .pre (c .before .loop .i) (omega arith))
 
@@ -28,25 +25,10 @@ add-double-at c = omega (arith, c .before .before .before .before .pre (c .befor
 double-at-requires : tie.Need-double-at-requires Inv-loop μ-loop
 double-at-requires c κs = c .before .before .before .before .pre (c .before .loop .i) (omega arith)
 
-mul-out : tie.Need-mul-out Inv-loop μ-loop
-mul-out c = omega arith
-
-slice-write-out : tie.Need-slice-write-out Inv-loop μ-loop
-slice-write-out c = omega arith
-
-add-i : tie.Need-add-i Inv-loop μ-loop
-add-i c = omega arith
-
-loop-less : tie.Need-loop-less Inv-loop μ-loop
-loop-less c = omega arith
-
 loop-again : tie.Need-loop-again Inv-loop μ-loop
 loop-again c =
     let l = c .before .before .loop in
     (omega arith, omega arith, simp length-set (l .inv .2), stored _ (l .i) _ (l .out) _ (omega arith) (l .inv .3) (c .double-at .ensures))
-
-same-length : tie.Need-same-length Inv-loop μ-loop
-same-length c = omega arith
 
 returns : tie.Need-returns Inv-loop μ-loop
 returns c =
@@ -59,14 +41,14 @@ read-doubles-spec =
     (tie.spec
     Inv-loop
     μ-loop
-    loop-holds
+    (λ c. (omega arith, refl, refl, filled-none _ _))
     mul-double-at
     add-double-at
     double-at-requires
-    mul-out
-    slice-write-out
-    add-i
-    loop-less
+    (λ c. omega arith)
+    (λ c. omega arith)
+    (λ c. omega arith)
+    (λ c. omega arith)
     loop-again
-    same-length
+    (λ c. omega arith)
     returns)

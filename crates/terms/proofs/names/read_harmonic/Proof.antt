@@ -5,18 +5,9 @@ use Rattle.terms.specs.Names.{readHarmonic}
 use Rattle.terms.proofs.names.read_harmonic.Statement.{statement}
 use Rattle.terms.proofs.names.read_harmonic.Tie as tie
 
-parse-harmonic-requires : tie.Need-parse-harmonic-requires
-parse-harmonic-requires c κs = search needs
-
-refuse-requires : tie.Need-refuse-requires
-refuse-requires c κs = search needs
-
 returns : tie.Need-returns
 unfolding readHarmonic
 returns c = rw (← c .before .before .before .parse-harmonic .ensures, not-true (c .before .before .before .parse-harmonic .result .ok) (c .before .if1 .taken)) (c .refuse .ensures)
-
-accept-requires : tie.Need-accept-requires
-accept-requires c κs = search needs
 
 returns-2 : tie.Need-returns-2
 unfolding readHarmonic
@@ -28,4 +19,4 @@ returns-2 c =
 
 pub read-harmonic-spec : {M : Type 1} → statement M
 read-harmonic-spec =
-    tie.close (tie.spec parse-harmonic-requires refuse-requires returns accept-requires returns-2)
+    tie.close (tie.spec (λ c κs. search needs) (λ c κs. search needs) returns (λ c κs. search needs) returns-2)
