@@ -29,9 +29,9 @@ pub extern "C" fn bench_solve_damped(
     fit_tol: f64,
 ) -> linalg::SolveOutcome
     requires { ⌜ (0 < m) × (m ≤ maxTerms) × (rows + m + m ≤ h) × (c + m * h ≤ length (now w)) × (b + rows ≤ c) ⌝ }
-    ensures { λ r. ⌜ (record { outcome = r; w = part (now (w .exit)) c (m * h) } ≡ solvedDamped h rows m (part (now (w .entry)) c (m * h))
-        (part (now (w .entry)) b rows) lambda «fit_tol»)
-        × Only c (m * h) (now (w .entry)) (now (w .exit)) ⌝ }
+    ensures solution { λ r. ⌜ record { outcome = r; w = part (now (w .exit)) c (m * h) }
+        ≡ solvedDamped h rows m (part (now (w .entry)) c (m * h)) (part (now (w .entry)) b rows) lambda «fit_tol» ⌝ }
+    ensures only { λ _. ⌜ Only c (m * h) (now (w .entry)) (now (w .exit)) ⌝ }
 {
     linalg::solve_damped(w, c, h, rows, m, b, lambda, fit_tol)
 }

@@ -2,7 +2,8 @@
 -- Assumes nothing.
 use mathlib.Core.Path.{_≡_, sym, ap, _∙_, subst}
 use Prim.Native.Nat.{ℕ, _+_, _-_, _*_, _^_, _≤_, _<_}
-use native.Mathlib.Nat.{le-refl, le-trans, le-of-eq, one-mul, mul-comm, mul-assoc, mul-left-comm, mul-right-comm, add-comm, add-mul, mul-le-mul-left, mul-le-mul-right, le-of-mul-le-mul-right, add-le-add, pow-zero, pow-suc, pow-le-pow-left, add-sub-of-le}
+use native.Mathlib.Nat.{le-refl, le-trans, le-of-eq, add-comm, add-mul, add-le-add, add-sub-of-le, pow-zero, pow-suc, pow-le-pow-left}
+use native.Mathlib.Nat.{one-mul, mul-comm, mul-assoc, mul-left-comm, mul-right-comm, mul-le-mul-left, mul-le-mul-right, le-of-mul-le-mul-right}
 use lib.Pow.{pow-add}
 
 abbrev pub Upto : ℕ → ℕ → ℕ → ℕ → ℕ → Type 0

@@ -8,14 +8,14 @@ use lib.Pow.{pow-pos}
 use lib.Ieee.{Float, nan, inf, fin, lt}
 use lib.Ieee.Digits.{Equals}
 use lib.Ieee.Positive.{num, den, den-pos}
-use Rattle.best.specs.ChiSquare.{chi, unitsOf, exact, Frac, plus, squared, exactSum, Ratio, TameValue, AllTameValues, parts, AtMost}
+use Rattle.best.specs.ChiSquare.{chi, unitsOf, exact, Frac, addFrac, squared, exactSum, Ratio, TameValue, AllTameValues, parts, AtMost}
 use Rattle.best.proofs.Ratios as Ratios
 use Rattle.best.proofs.Rounding.{P}
 use Rattle.best.proofs.Residuals.{units-of}
 use Rattle.best.proofs.Bound.{fewer}
 use Rattle.best.proofs.Compare.{exact-of-not-lt}
 
-plus-is : (a b : Frac) (u v q : ℕ) → Ratio a u q → Ratio b v q → Ratio (plus a b) (u + v) q
+plus-is : (a b : Frac) (u v q : ℕ) → Ratio a u q → Ratio b v q → Ratio (addFrac a b) (u + v) q
 plus-is a b u v q h k = (mul-pos (h .0) (k .0), Ratios.sum (a .over) (b .over) (a .under) (b .under) u v q (h .1) (k .1))
 
 num-units : (x : Float) (u : ℕ) → Equals x u P → num x * P ≡ u * den x
@@ -34,7 +34,7 @@ exact-is-sum h d (suc n) f =
     let (x, y) = f n (le-refl (suc n)) in
     let u = unitsOf (h n) * unitsOf (h n) in
     let v = unitsOf (d n) * unitsOf (d n) in
-    plus-is (exactSum h d n) (plus (squared (h n)) (squared (d n))) (exact h d n) (u + v) (2 ^ 2148) (exact-is-sum h d n (fewer h d n f))
+    plus-is (exactSum h d n) (addFrac (squared (h n)) (squared (d n))) (exact h d n) (u + v) (2 ^ 2148) (exact-is-sum h d n (fewer h d n f))
     (plus-is (squared (h n)) (squared (d n)) u v (2 ^ 2148) (squared-is (h n) x) (squared-is (d n) y))
 
 -- the order of fractions by their units

@@ -31,8 +31,8 @@ pub record Frac : Type 0 where
   pub over : ℕ
   pub under : ℕ
 
-abbrev pub plus : Frac → Frac → Frac
-plus a b = record { over = a .over * b .under + b .over * a .under; under = a .under * b .under }
+abbrev pub addFrac : Frac → Frac → Frac
+addFrac a b = record { over = a .over * b .under + b .over * a .under; under = a .under * b .under }
 
 -- the square of a finite float
 abbrev pub squared : Float → Frac
@@ -40,7 +40,7 @@ squared x = record { over = num x * num x; under = den x * den x }
 
 unfoldable pub exactSum : (ℕ → Float) → (ℕ → Float) → ℕ → Frac
 exactSum h d zero = record { over = 0; under = 1 }
-exactSum h d (suc n) = plus (exactSum h d n) (plus (squared (h n)) (squared (d n)))
+exactSum h d (suc n) = addFrac (exactSum h d n) (addFrac (squared (h n)) (squared (d n)))
 
 -- a is u / q
 abbrev pub Ratio : Frac → ℕ → ℕ → Type 0

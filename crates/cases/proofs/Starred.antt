@@ -3,7 +3,7 @@ use mathlib.Core.Path.{refl}
 use mathlib.Core.List.{zipWith}
 use lib.Ieee.{neg, add, sub, mul, div, lt, le, eq, ofBits, ofInt}
 use Rattle.float.specs.Float.{isFinite, abs}
-use Rattle.sequence.specs.Sequence.{table, filled, each, sumTo, sumBut, dot}
+use Rattle.sequence.specs.Sequence.{table, concatTo, filled, each, sumTo, sumBut, dot}
 use Rattle.sqrt.specs.Sqrt as Root
 use Rattle.observation.specs.Sheet.{pointOf}
 use Rattle.harmonic.specs.Harmonic.{components, parseHarmonic}
@@ -16,11 +16,11 @@ use Rattle.order.specs.Order.{order, best}
 use Rattle.linalg.specs.Linalg.{solved, answered, decomposed, inverses, inverse, rankTo, projected, xScaled, solution, scaledVariance, covariance, leverageOf, threshold, solvedDamped}
 use Rattle.design.specs.Design as Design
 use Rattle.design.specs.Design.{kept, collectIndices, column, skyColumn, differences, skyRows, skyDifferences, subtractAll, product, predicted, scattered, weighing, stacked}
-use Rattle.validate.specs.Questions.{asked, limits, counts, scratchNeeded, room, finiteSettings, finiteInput, finiteOptions, codesKnown}
+use Rattle.validate.specs.Questions.{asked, inLimits, counts, scratchNeeded, enoughRoom, finiteSettings, finiteInput, finiteOptions, codesKnown}
 use Rattle.stats.specs.Stats.{sumSqSky, skyFrom, variance, deviation, clamped, studentizedRow, diagnostic}
 use Rattle.best.specs.ChiSquare.{chi}
 use Rattle.best.specs.Trials.{after}
-use Rattle.outcome.specs.Outcome.{finished, sigmaOf, diagnosticOf, diagnosticNumbers}
+use Rattle.outcome.specs.Outcome.{finished, sigmaOf, diagnosticOf}
 use Rattle.single_step.specs.SingleStep.{fitOutcome, fittedRun, step, toFit, change, newCoefficients, freeResiduals, actualResiduals}
 use Rattle.lm_system.specs.System.{residualsUnder, skyResiduals, chi2At, huberFrom, lmStep, moved}
 use Rattle.iterated.specs.Iterated as Iterated
@@ -29,8 +29,8 @@ use Rattle.cases.specs.Cases.{Starred}
 
 pub starred : Starred
 unfolding nameOf wellFormed digitsFrom unsigned components parseHarmonic readHarmonic byKnown readTerm jacobianOf pointOf isFinite abs neg add sub mul div lt
-    le eq ofBits ofInt Root.sqrt table filled each sumTo sumBut dot zipWith fitOutcome asked limits counts scratchNeeded room finiteInput finiteOptions
-    codesKnown firstOf finished step toFit newCoefficients freeResiduals sigmaOf diagnosticOf diagnosticNumbers Design.rows column skyColumn differences
+    le eq ofBits ofInt Root.sqrt table filled each sumTo sumBut dot zipWith fitOutcome asked inLimits counts scratchNeeded enoughRoom finiteInput finiteOptions
+    codesKnown firstOf finished step toFit newCoefficients freeResiduals sigmaOf diagnosticOf concatTo Design.rows column skyColumn differences
     skyDifferences subtractAll product stacked sumSqSky variance deviation clamped studentizedRow diagnostic solved answered decomposed norms norm scaleOf
     scaledColumn unitColumn columns diagonal diagonals extended inverses inverse rankTo projected xScaled solution scaledVariance covariance leverageOf
     threshold order best sweeps sweep row pair turn zetaOf tanOf cosOf iteratedOutcome lmLoop after lastSet Iterated.freeResiduals chi skyResiduals huberFrom

@@ -45,18 +45,18 @@ pub data Answer : Type 0 where
   measured : List Float → Float → List Float → Answer
   looped : List Float → ℕ → Bool → Float → Answer
 
-pub record Row : Type 0 where
+pub record Case : Type 0 where
   pub got : Answer
   pub wanted : Answer
 
 -- ---- readings
 
-abbrev pub slot : String → List ℕ
-slot s = padded (ascii s)
+abbrev pub slotOf : String → List ℕ
+slotOf s = padded (ascii s)
 
 -- the name s in its slot is read as r
-abbrev pub reads : String → Reading → Row
-reads s r = record { got = reading (readTerm (slot s)); wanted = reading r }
+abbrev pub reads : String → Reading → Case
+reads s r = record { got = reading (readTerm (slotOf s)); wanted = reading r }
 
 abbrev component : TrigFunc → Coordinate → ℕ → HarmonicComponent
 component f c k = record { func = f; coord = c; frequency = k }
@@ -77,8 +77,8 @@ abbrev pub east : ℕ
 east = 1
 
 -- the name s at such a sheet and the latitude 0 has the Jacobian p
-abbrev pub hasJacobian : String → Float → ℕ → Pair → Row
-hasJacobian s c pier p = record { got = jacobian (jacobianOf (slot s) (sheet c) #0 #1 pier); wanted = jacobian (Given p) }
+abbrev pub hasJacobian : String → Float → ℕ → Pair → Case
+hasJacobian s c pier p = record { got = jacobian (jacobianOf (slotOf s) (sheet c) #0 #1 pier); wanted = jacobian (Given p) }
 
 -- ---- fits
 
@@ -112,14 +112,14 @@ stills (suc n) = still ++ stills n
 abbrev pub run : List Float → FitInputs
 run dd =
     let n = length dd in
-    inputs (slot "ID") (0 ∷ []) (#0 ∷ []) (replicate n #0) dd (replicate n east) (stills n) (settingsOf #0 #1 #0)
+    inputs (slotOf "ID") (0 ∷ []) (#0 ∷ []) (replicate n #0) dd (replicate n east) (stills n) (settingsOf #0 #1 #0)
 
 -- buffers of just the size
-abbrev pub exact : ℕ → Buffers
-exact n = buffers (#0 ∷ []) (#0 ∷ []) (#0 ∷ []) (replicate (3 * n) #0) (replicate (scratchNeeded 1 n) #0)
+abbrev pub exactRoom : ℕ → Buffers
+exactRoom n = buffers (#0 ∷ []) (#0 ∷ []) (#0 ∷ []) (replicate (3 * n) #0) (replicate (scratchNeeded 1 n) #0)
 
 abbrev pub stepped : List Float → Outcome
-stepped dd = fitOutcome (run dd) (exact (length dd))
+stepped dd = fitOutcome (run dd) (exactRoom (length dd))
 
 abbrev pub rankedBy : Fit → List Float → Answer
 rankedBy (Done r) cs = ranked cs (r .«rank_info» .rank)
@@ -130,7 +130,7 @@ measuredBy (Done r) cs ls = measured cs (r .«sky_rms») ls
 measuredBy (Refused k) cs ls = refusal k
 
 -- the file case
-abbrev pub fileCase : Row
+abbrev pub fileCase : Case
 fileCase = let o = stepped (neg #10 ∷ []) in record { got = rankedBy (o .answer) (o .left .coefficients); wanted = ranked (#10 ∷ []) 1 }
 
 -- the file case iterated, with the default options but for a limit of 0
@@ -149,24 +149,24 @@ abbrev pub loopedBy : Fit → List Float → Answer
 loopedBy (Done r) cs = looped cs (r .«iter_report» .iterations) (r .«iter_report» .converged) (r .«iter_report» .«final_step_norm»)
 loopedBy (Refused k) cs = refusal k
 
-abbrev pub fileCaseIterated : Row
+abbrev pub fileCaseIterated : Case
 fileCaseIterated =
-    let o = iteratedOutcome (run (neg #10 ∷ [])) atOnce (exact 1) in
+    let o = iteratedOutcome (run (neg #10 ∷ [])) atOnce (exactRoom 1) in
     record { got = loopedBy (o .answer) (o .left .coefficients); wanted = looped (#10 ∷ []) 0 false (inf false) }
 
 -- the second of each star's three diagnostics
 abbrev pub leverages : ℕ → List Float → List Float
 leverages n d = table n (λ i. at d (3 * i + 1))
 
-abbrev pub fourStars : Row
+abbrev pub fourStars : Case
 fourStars =
     let o = stepped (neg #10 ∷ neg #20 ∷ neg #10 ∷ neg #20 ∷ []) in
     record { got = measuredBy (o .answer) (o .left .coefficients) (leverages 4 (o .left .diagnostics)); wanted = measured (#15 ∷ []) #5 (replicate 4 quarter) }
 
 -- ---- the table
 
-abbrev pub rows : List Row
-rows =
+abbrev pub starredCases : List Case
+starredCases =
     reads "ih" (accepted (Equatorial IH) (ascii "IH") (arrayOf [])) ∷
     reads "tx+05" (accepted (Equatorial (TXN 5)) (ascii "TX5") (arrayOf [])) ∷
     reads "TX0" (refused 9) ∷
@@ -189,4 +189,4 @@ rows =
 
 -- each row's answer is what the definitions of the public calls give: proofs/Starred.antt
 abbrev pub Starred : Type 0
-Starred = map (λ (r : Row). r .got) rows ≡ map (λ (r : Row). r .wanted) rows
+Starred = map (λ (r : Case). r .got) starredCases ≡ map (λ (r : Case). r .wanted) starredCases

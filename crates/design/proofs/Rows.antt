@@ -7,15 +7,8 @@ use lib.ListN.{length, getD, length-map}
 use lib.Ieee.{Float}
 use Rattle.float.specs.Float.{_⊗_}
 use Rattle.sequence.specs.Sequence.{at}
+use Rattle.sequence.proofs.Parts.{zip-at}
 use Rattle.design.specs.Design.{Star, rows, skyRows, cosDec}
-
--- two vectors, row by row
-zip-at : (op : Float → Float → Float) (xs ys : List Float) (k : ℕ) → length ys ≡ length xs → k < length xs → op (at xs k) (at ys k) ≡ at (zipWith op xs ys) k
-unfolding zipWith
-zip-at op [] ys k e h = absurd (omega arith)
-zip-at op (x ∷ xs) [] k e h = absurd (omega arith)
-zip-at op (x ∷ xs) (y ∷ ys) zero e h = refl
-zip-at op (x ∷ xs) (y ∷ ys) (suc k) e h = zip-at op xs ys k (omega arith) (omega arith)
 
 pub rows-length : (f g : Star → Float) (ss : List Star) → length (rows f g ss) ≡ 2 * length ss
 unfolding rows

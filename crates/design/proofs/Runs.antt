@@ -9,12 +9,19 @@ use lib.Ieee.{Float}
 use Rattle.terms.specs.Names.{readTerm}
 use Rattle.terms.specs.Slots.{slot}
 use Rattle.terms.proofs.First.{first-each}
-use Rattle.design.specs.Design.{RunInputs, runFrom, starsAt, sightsAt, termAt, rowsOf, heightOf, columnOf, skyOf}
+use Rattle.design.specs.Design.{RunInputs, runInputs, runFrom, starsAt, sightsAt, termAt, rowsOf, heightOf, columnOf, skyOf}
 use Rattle.design.specs.Design.{column, skyColumn, differences, skyDifferences, skyRows}
 use Rattle.design.specs.Counted.{Seen, Named, Read, Counted}
 use Rattle.design.proofs.Stars as stars
 
+-- l with m terms: a run that is handed on has its number of terms from the set
+abbrev pub withTerms : RunInputs → ℕ → RunInputs
+withTerms l m = runInputs m (l .names) (l .free) (l .dh) (l .dd) (l .pier) (l .sheets) (l .used) (l .settings)
+
 module _ (l : RunInputs) where
+  pub counted-as : (m : ℕ) → m ≡ l .m → Counted l → Counted (withTerms l m)
+  counted-as m e c = rw e c
+
   -- ---- how many
 
   pub count-is : length (l .used) ≡ length (runFrom l .stars)

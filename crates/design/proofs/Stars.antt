@@ -16,21 +16,9 @@ pub use Rattle.design.proofs.Rows.{sky-rows-length}
 
 -- ---- how many rows
 
-pub column-length : (c : Settings) (ss : List Star) (t : Term) → length (column c ss t) ≡ 2 * length ss
-unfolding column
-column-length c ss t = rows.rows-length _ _ ss
-
 pub sky-column-length : (c : Settings) (ss : List Star) (t : Term) → length (skyColumn c ss t) ≡ 2 * length ss
 unfolding skyColumn
 sky-column-length c ss t = rows.rows-length _ _ ss
-
-pub differences-length : (ss : List Star) → length (differences ss) ≡ 2 * length ss
-unfolding differences
-differences-length ss = rows.rows-length _ _ ss
-
-pub sky-differences-length : (ss : List Star) → length (skyDifferences ss) ≡ 2 * length ss
-unfolding skyDifferences
-sky-differences-length ss = rows.rows-length _ _ ss
 
 module _ (dh dd : List Float) (pier : List ℕ) (sheets : List Float) (used : List ℕ) where
   pub stars-count : length (starsAt dh dd pier sheets used) ≡ length used

@@ -11,13 +11,13 @@ use lib.ListN.{length, getD, take, drop, replicate, length-replicate}
 use lib.Seq.{sets, length-take-le, take-at, take-add, take-suc, take-length, drop-at, drop-drop}
 use lib.Ieee.{Float, lt}
 use Rattle.float.specs.Float.{#0}
-use Rattle.sequence.specs.Sequence.{part, each, Only}
+use Rattle.sequence.specs.Sequence.{part, each, Beside, Only}
 use Rattle.sequence.proofs.Parts.{apart, length-part, part-sets-same, length-zip, length-zip-part}
 use Rattle.sequence.proofs.Fills.{each-none, each-next, each-end}
 use Rattle.sequence.proofs.Only.{length-cut, only-none, only-sets, only-wider, only-then, back, back-long, back-only, back-part}
 use Rattle.terms.specs.declared.Term.{Term}
 use Rattle.design.specs.Design.{weighed, weighing, stacked}
-use Rattle.design.specs.Counted.{Apart, Beside}
+use Rattle.design.specs.Counted.{Apart}
 
 -- ---- one term's turn
 

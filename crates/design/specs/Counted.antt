@@ -29,7 +29,7 @@ Named names free = (i : ℕ) → i < length free → slotBytes * getD free i 0 +
 abbrev pub Read : List ℕ → List ℕ → Type 0
 Read names free = (i : ℕ) → i < length free → readTerm (slot names (getD free i 0)) .refusal ≡ 0
 
--- a run: at most 32 terms, whose names are read and of which some are free, and at most 1,024 stars
+-- a run: at most 32 terms, whose names are read and of which some are free, at most 1,024 stars, and no fewer that count than free terms
 pub record Counted (l : RunInputs) : Type 0 where
   pub terms : l .m ≤ maxTerms
   pub names-count : length (l .names) ≡ slotBytes * l .m
@@ -43,10 +43,7 @@ pub record Counted (l : RunInputs) : Type 0 where
   pub sheets-count : length (l .sheets) ≡ sheetNumbers * length (l .dh)
   pub used-few : length (l .used) ≤ length (l .dh)
   pub used-below : Below (length (l .dh)) (l .used)
-
--- n numbers from x on can be written one by one while those from y on are read
-abbrev pub Beside : ℕ → ℕ → ℕ → Type 0
-Beside x y n = (x ≤ y) ⊎ (y + n ≤ x)
+  pub used-enough : length (l .free) ≤ length (l .used)
 
 -- the n numbers from x on end before y, or begin after the n from y on
 abbrev pub Apart : ℕ → ℕ → ℕ → Type 0

@@ -1,7 +1,6 @@
 -- A run: its stars, its terms and what a fit makes of them, the design's columns and the residuals, as docs/SCOPE.md 7 and 8 and solver/design.rs have
 -- them. A vector has two numbers a star, hour angle and declination. Definitions only.
-use Prim.Native.Nat.{ℕ, _*_, _+_, _-_, _≤_, _<_}
-use mathlib.Core.Path.{_≡_}
+use Prim.Native.Nat.{ℕ, _*_, _+_, _-_}
 use mathlib.Core.Bool.{Bool, cond}
 use mathlib.Core.List.{List, [], _∷_, _++_, map, zipWith}
 use lib.Dec.{eqb}
@@ -41,7 +40,7 @@ starAt dh dd pier sheets i = record { dh = at dh i; dd = at dd i; pier = getD pi
 abbrev pub starsAt : List Float → List Float → List ℕ → List Float → List ℕ → List Star
 starsAt dh dd pier sheets used = map (starAt dh dd pier sheets) used
 
--- without the differences, of which no column knows
+-- the same where no differences are lent (nor pier codes, where only cos dec is asked for): a column asks for none
 abbrev pub sightsAt : List ℕ → List Float → List ℕ → List Star
 sightsAt pier sheets used = starsAt [] [] pier sheets used
 
@@ -99,12 +98,12 @@ runFrom l =
     record { stars = starsAt (l .dh) (l .dd) (l .pier) (l .sheets) (l .used); m = l .m; term = termAt (l .names); free = l .free; settings = l .settings }
 
 -- of a call: every star counts
-abbrev pub listed : FitInputs → RunInputs
-listed l =
+abbrev pub runInputsOf : FitInputs → RunInputs
+runInputsOf l =
     runInputs (length (l .coefficients)) (l .names) (collectIndices (l .fixed)) (l .dh) (l .dd) (l .pier) (l .sheets) (upTo (length (l .dh))) (l .settings)
 
 abbrev pub runOf : FitInputs → Run
-runOf l = runFrom (listed l)
+runOf l = runFrom (runInputsOf l)
 
 -- how many rows the data have, and how many numbers a column of scratch
 abbrev pub rowsOf : Run → ℕ
@@ -153,7 +152,7 @@ skyRows (s ∷ ss) [] = []
 skyRows (s ∷ ss) (h ∷ []) = []
 skyRows (s ∷ ss) (h ∷ d ∷ b) = (h ⊗ cosDec (s .sheet)) ∷ d ∷ skyRows ss b
 
--- both
+-- build_residuals, and then its hour-angle rows times cos dec
 unfoldable pub skyDifferences : List Star → List Float
 skyDifferences ss = rows (λ s. s .dh ⊗ cosDec (s .sheet)) (λ s. s .dd) ss
 

@@ -2,19 +2,17 @@
 // term. A vector has two numbers a star. After solver/design.rs.
 
 ghost use mathlib.Core.Path.{_≡_};
-ghost use mathlib.Core.Bool.{cond};
 ghost use mathlib.Core.List.{List, [], map, zipWith};
 ghost use Prim.Native.Nat.{_+_, _-_, _*_, _<_, _≤_};
 ghost use lib.ListN.{length};
 ghost use lib.Seq.{sets};
-ghost use lib.Ieee.{binary64, sub, eq};
+ghost use lib.Ieee.{binary64, sub};
 ghost use Rattle.limits.specs.Limits.{maxTerms, slotBytes, sheetNumbers};
-ghost use Rattle.float.specs.Float.{#0};
-ghost use Rattle.sequence.specs.Sequence.{at, part, Only};
+ghost use Rattle.sequence.specs.Sequence.{at, part, Beside, Only};
 ghost use Rattle.design.specs.Design.{Star, sheetAt, starAt, starsAt, sightsAt, termAt, cosDec, starJacobian};
 ghost use Rattle.design.specs.Design.{column, skyColumn, differences, skyDifferences, skyRows, less, plus};
 ghost use Rattle.design.specs.Design.{subtractAll, product as productOf, predicted, extracted, weighed as weighedOf, weighing, weighedAt, stacked};
-ghost use Rattle.design.specs.Counted.{Below, Seen, Named, Beside, Apart};
+ghost use Rattle.design.specs.Counted.{Below, Seen, Named, Apart};
 use limits::MAX_TERMS;
 use limits::SHEET;
 use limits::SLOT;

@@ -46,12 +46,12 @@ unfoldable pub power : Float → ℕ → Float
 power x zero = #1
 power x (suc n) = power x n ⊗ x
 
-abbrev pub scaled : Float → Point → Pair
-scaled scale p = pairOf (scale ⊗ flexureH p ⊘ sinAlt p) (scale ⊗ flexureD p ⊘ sinAlt p)
+abbrev pub flexed : Float → Point → Pair
+flexed scale p = pairOf (scale ⊗ flexureH p ⊘ sinAlt p) (scale ⊗ flexureD p ⊘ sinAlt p)
 
 -- a name gives n from 1 to 255
 abbrev pub txnOf : Point → ℕ → Pair
-txnOf p n = cond (small (sinAlt p)) (pairOf #0 #0) (scaled (power (tanZ (sinAlt p)) (n - 1)) p)
+txnOf p n = cond (small (sinAlt p)) (pairOf #0 #0) (flexed (power (tanZ (sinAlt p)) (n - 1)) p)
 
 -- ---- one clause a term
 

@@ -9,7 +9,7 @@ use mathlib.Core.Option.{Option, none, some}
 use lib.Dec.{eqb, leb, ltb}
 use lib.ListN.{length, getD, drop, length-drop, length-map}
 use borrow.Author.Tests.{eqb-true}
-use Rattle.harmonic.specs.Harmonic.{digit, component, join, components, resultOf, malformedName, parsed, parseHarmonic}
+use Rattle.harmonic.specs.Harmonic.{isDigit, component, join, components, resultOf, malformedName, parsed, parseHarmonic}
 use Rattle.harmonic.specs.declared.Made.{Made}
 use Rattle.harmonic.specs.declared.ResultRead.{ResultRead}
 use Rattle.harmonic.specs.declared.HarmonicComponent.{HarmonicComponent}
@@ -41,7 +41,7 @@ components-size [] = omega arith
 components-size (f ∷ []) = omega arith
 components-size (f ∷ c ∷ []) = omega (arith, join-size (component f c 1) (some []))
 components-size (f ∷ c ∷ d ∷ s) =
-    either (λ (o : Option (List HarmonicComponent)). size o + size o) _ (digit d) _ _
+    either (λ (o : Option (List HarmonicComponent)). size o + size o) _ (isDigit d) _ _
     (λ e. omega (arith, join-size (component f c (d - code "0")) (components s), components-size s))
     (omega (arith, join-size (component f c 1) (components (d ∷ s)), components-size (d ∷ s)))
 

@@ -49,9 +49,9 @@ refusedAnswer k = record {
   «final_step_norm» = #0;
 }
 
-abbrev pub answerOf : Fit → FitAnswer
-answerOf (Done r) = givenAnswer r
-answerOf (Refused k) = refusedAnswer k
+abbrev pub fitAnswer : Fit → FitAnswer
+fitAnswer (Done r) = givenAnswer r
+fitAnswer (Refused k) = refusedAnswer k
 
 -- the struct, and what each buffer holds at the end
 pub record Exported : Type 0 where
@@ -62,7 +62,7 @@ abbrev pub exported : FitAnswer → Buffers → Exported
 exported a b = record { answer = a; left = b }
 
 abbrev pub exportedOf : Outcome → Exported
-exportedOf o = exported (answerOf (o .answer)) (o .left)
+exportedOf o = exported (fitAnswer (o .answer)) (o .left)
 
 -- demand 3 of an accepted call: what the answer's coefficients hold at the end, m of which are the set
 abbrev pub BestWhereGiven : FitInputs → IterOptions → FitAnswer → List Float → Type 0

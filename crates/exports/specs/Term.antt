@@ -69,13 +69,13 @@ abbrev pub kindCode : TermKind → ℕ
 kindCode (Equatorial t) = equatorialCode t
 kindCode (Harmonic t) = 15
 
-abbrev pub numberOf : TermKind → ℕ
-numberOf (Equatorial t) = txnNumber t
-numberOf (Harmonic t) = 0
+abbrev pub kindNumber : TermKind → ℕ
+kindNumber (Equatorial t) = txnNumber t
+kindNumber (Harmonic t) = 0
 
-abbrev pub resultOf : TermKind → ℕ
-resultOf (Equatorial t) = 0
-resultOf (Harmonic t) = resultCode t
+abbrev pub kindResult : TermKind → ℕ
+kindResult (Equatorial t) = 0
+kindResult (Harmonic t) = resultCode t
 
 -- ---- components
 
@@ -105,8 +105,8 @@ readAnswer t =
     record {
       refusal = 0;
       kind = kindCode (t .kind);
-      number = numberOf (t .kind);
-      result = resultOf (t .kind);
+      number = kindNumber (t .kind);
+      result = kindResult (t .kind);
       count = t .components .count;
       name = t .name;
       functions = codes .functions;

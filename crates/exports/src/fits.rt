@@ -1,7 +1,7 @@
 // The answer of a fit as a C struct.
 
 ghost use mathlib.Core.Path.{_≡_};
-ghost use Rattle.exports.specs.Fits.{givenAnswer, refusedAnswer, answerOf};
+ghost use Rattle.exports.specs.Fits.{givenAnswer, refusedAnswer, fitAnswer};
 use solver::Fit;
 use solver::FitResult;
 
@@ -63,7 +63,7 @@ fn refused(k: u8) -> FitAnswer
 }
 
 pub fn answer(fit: Fit) -> FitAnswer
-    ensures { λ r. ⌜ r ≡ answerOf fit ⌝ }
+    ensures { λ r. ⌜ r ≡ fitAnswer fit ⌝ }
 {
     match fit {
         Fit::Done(r) => given(r),

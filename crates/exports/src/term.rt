@@ -2,8 +2,8 @@
 
 ghost use mathlib.Core.Path.{_≡_};
 ghost use Prim.Native.Nat.{_≤_};
-ghost use Rattle.exports.specs.Term.{equatorialCode, txnNumber, resultCode, kindCode, numberOf};
-ghost use Rattle.exports.specs.Term.{resultOf, functionCode, coordinateCode, componentCodes, noTerm, termAnswer};
+ghost use Rattle.exports.specs.Term.{equatorialCode, txnNumber, resultCode, kindCode, kindNumber};
+ghost use Rattle.exports.specs.Term.{kindResult, functionCode, coordinateCode, componentCodes, noTerm, termAnswer};
 use equatorial::EquatorialTerm;
 use harmonic::Coordinate;
 use harmonic::HarmonicComponent;
@@ -106,7 +106,7 @@ fn kind_code(k: TermKind) -> u8
 }
 
 fn number_of(k: TermKind) -> u8
-    ensures { λ r. ⌜ r ≡ numberOf k ⌝ }
+    ensures { λ r. ⌜ r ≡ kindNumber k ⌝ }
 {
     match k {
         TermKind::Equatorial(t) => txn_number(t),
@@ -115,7 +115,7 @@ fn number_of(k: TermKind) -> u8
 }
 
 fn result_of(k: TermKind) -> u8
-    ensures { λ r. ⌜ r ≡ resultOf k ⌝ }
+    ensures { λ r. ⌜ r ≡ kindResult k ⌝ }
 {
     match k {
         TermKind::Equatorial(_) => 0,

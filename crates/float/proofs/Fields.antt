@@ -25,7 +25,9 @@ low-value f s t = odd-sign (prec f) s t 0 (low f)
 
 high-fields : (f : Format) (s : Bool) (x t : ℕ) → suc x < ones f → ofFields f s (suc x) t ≡ odd (prec f) s (hid f + t) x (low f)
 unfolding ofFields
-high-fields f s x t h = cond-no (eqb (suc x) (ones f)) (cond (eqb t 0) (inf s) nan) (odd (prec f) s (hid f + t) x (low f)) (not-T (eqb (suc x) (ones f)) (λ k. lt-irrefl (ones f) (subst (λ (y : ℕ). y < ones f) (eqb→eq (suc x) (ones f) k) h)))
+high-fields f s x t h =
+    let below = not-T (eqb (suc x) (ones f)) (λ k. lt-irrefl (ones f) (subst (λ (y : ℕ). y < ones f) (eqb→eq (suc x) (ones f) k) h)) in
+    cond-no (eqb (suc x) (ones f)) (cond (eqb t 0) (inf s) nan) (odd (prec f) s (hid f + t) x (low f)) below
 
 pub high-value : (f : Format) (s : Bool) (x t : ℕ) → suc x < ones f → HasValue (ofFields f s (suc x) t) s ((hid f + t) * 2 ^ x) (2 ^ low f)
 high-value f s x t h = subst (λ (v : Float). HasValue v s ((hid f + t) * 2 ^ x) (2 ^ low f)) (sym (high-fields f s x t h)) (odd-sign (prec f) s (hid f + t) x (low f))

@@ -3,7 +3,8 @@ use Prim.Native.Nat.{ℕ, zero, suc, _+_, _-_, _*_, _/_, _%_, _^_, _≤_, _<_}
 use mathlib.Core.Path.{_≡_, sym, ap, _∙_, subst}
 use mathlib.Core.Bool.{Bool, true, false, _&&_, cond}
 use mathlib.Core.Logic.{_⊎_, inl, inr}
-use native.Mathlib.Nat.{le-trans, le-of-eq, le-of-lt, le-refl, le-antisymm, lt-irrefl, lt-of-lt-of-le, lt-of-le-of-lt, mul-pos, mul-le-mul-right, mul-lt-mul-of-pos-right, mul-assoc, mul-one, mul-div-cancel, zero-add, zero-mul, eq-of-mul-eq-mul-right, eq-zero-or-pos}
+use native.Mathlib.Nat.{le-trans, le-of-eq, le-of-lt, le-refl, le-antisymm, lt-irrefl, lt-of-lt-of-le, lt-of-le-of-lt, zero-add, eq-zero-or-pos}
+use native.Mathlib.Nat.{mul-pos, mul-le-mul-right, mul-lt-mul-of-pos-right, mul-assoc, mul-one, mul-div-cancel, zero-mul, eq-of-mul-eq-mul-right}
 use native.Mathlib.Omega.{arith}
 use lib.IntN.{ℤ, pos, negsuc}
 use lib.Dec.{T, leb, ltb, eqb, leb→le, ltb→lt, lt→ltb}
@@ -60,7 +61,8 @@ pub in-units : (l m : ℕ) (e : ℤ) → down e ≤ 2 ^ l → (j : ℕ) × (m * 
 in-units l m (pos k) d = (k + l, mul-assoc m (2 ^ k) (2 ^ l) ∙ ap (λ (x : ℕ). m * x) (sym (pow-add 2 k l)) ∙ sym (mul-one (m * 2 ^ (k + l))))
 in-units l m (negsuc k) d =
     let j = l - suc k in
-    (j, ap (λ (x : ℕ). x * 2 ^ l) (mul-one m) ∙ ap (λ (x : ℕ). m * x) (ap (λ (x : ℕ). 2 ^ x) (sym (back l (suc k) (pow-le-back (suc k) l d))) ∙ pow-add 2 j (suc k)) ∙ sym (mul-assoc m (2 ^ j) (2 ^ suc k)))
+    let power : 2 ^ l ≡ 2 ^ j * 2 ^ suc k = ap (λ (x : ℕ). 2 ^ x) (sym (back l (suc k) (pow-le-back (suc k) l d))) ∙ pow-add 2 j (suc k) in
+    (j, ap (λ (x : ℕ). x * 2 ^ l) (mul-one m) ∙ ap (λ (x : ℕ). m * x) power ∙ sym (mul-assoc m (2 ^ j) (2 ^ suc k)))
 
 value-digits : (f : Format) (m : ℕ) (e : ℤ) (a : ℕ) → m < 2 ^ prec f → down e ≤ 2 ^ low f → m * up e * 2 ^ low f ≡ a * down e → Digits (prec f) a
 value-digits f m e a s d v =

@@ -11,6 +11,7 @@ use lib.ListN.{length, take, getD, set, length-set}
 use lib.Seq.{take-at, getD-set-other}
 use lib.Ieee.{Float, nan, binary64, fits, sub, lt, le}
 use lib.Ieee.Fits.{nan-fits, mul-fits, sub-fits}
+use Rattle.limits.specs.Limits.{maxStars}
 use Rattle.float.specs.Float.{_⊕_}
 use Rattle.sequence.specs.Sequence.{at, each}
 use Rattle.sequence.proofs.Fills.{each-last}
@@ -24,7 +25,7 @@ use Rattle.solver.specs.declared.Fit.the-variants.{Done, Refused}
 use Rattle.solver.specs.declared.FitResult.{FitResult}
 use Rattle.solver.specs.declared.IterOptions.{IterOptions}
 use Rattle.solver.specs.Call.{FitInputs, Buffers}
-use Rattle.design.specs.Design.{Star, Run, runOf, listed, collectIndices, isFree, skyRows}
+use Rattle.design.specs.Design.{Star, Run, runOf, runInputsOf, collectIndices, isFree, skyRows}
 use Rattle.design.proofs.Indices.{up-to-length, indices-free}
 use Rattle.design.proofs.Runs.{count-is}
 use Rattle.outcome.specs.Outcome.{Outcome, outcome, finished}
@@ -170,7 +171,7 @@ module _ (l : FitInputs) (o : IterOptions) where
       (λ i h t v q. getD-set-other t (getD (collectIndices (l .fixed)) i 0) j v nan (other j i e h) ∙ q))
       refl
 
-pub best-of-tried : (l : FitInputs) (o : IterOptions) → length (l .dh) ≤ 1024
+pub best-of-tried : (l : FitInputs) (o : IterOptions) → length (l .dh) ≤ maxStars
     → BestOfTried l o (final (runOf l) o (l .coefficients)) (lmLoop (runOf l) o (l .coefficients) .how .iterations)
 best-of-tried l o few =
     let r = runOf l in
@@ -178,7 +179,7 @@ best-of-tried l o few =
     let k = o .«max_iter» in
     let s = begin r o (l .coefficients) in
     let is = sym (final-is r o (l .coefficients)) in
-    let stars : length (r .stars) ≤ 1024 = omega (arith, count-is (listed l), up-to-length (length (l .dh))) in
+    let stars : length (r .stars) ≤ maxStars = omega (arith, count-is (runInputsOf l), up-to-length (length (l .dh))) in
     record {
       listed = subst (λ (z : List Float). List·Memᴰ z (triedSets l o)) is (answer-listed p (Known r o (l .coefficients)) (rule r o (l .coefficients)) k s refl);
       best = λ x m f. subst (λ (z : List Float). TameAt r z → AtMost (exactSumAt r z) (exactSumAt r x)) is
@@ -195,7 +196,7 @@ iterations-of : Fit → ℕ
 iterations-of (Done r) = r .«iter_report» .iterations
 iterations-of (Refused k) = 0
 
-pub fitted-demand : (l : FitInputs) (o : IterOptions) (b left : Buffers) (r : FitResult) → length (l .dh) ≤ 1024 → outcome (Done r) left ≡ fitted l o b
+pub fitted-demand : (l : FitInputs) (o : IterOptions) (b left : Buffers) (r : FitResult) → length (l .dh) ≤ maxStars → outcome (Done r) left ≡ fitted l o b
     → Demand3 l o (Done r) (left .coefficients)
 unfolding fittedRun finished iterations-of
 fitted-demand l o b left r few e =

@@ -14,9 +14,9 @@ use Rattle.best.proofs.Turns.{begins, goes-on, is-left, ran-out}
 use Rattle.linalg.specs.declared.SolveOutcome.{SolveOutcome}
 use Rattle.linalg.specs.Linalg.{Solved}
 use Rattle.solver.specs.declared.IterOptions.{IterOptions}
-use Rattle.design.specs.Design.{RunInputs, runInputs, runFrom, sightsAt, termAt, product, extracted, weighedAt}
+use Rattle.design.specs.Design.{RunInputs, runFrom, sightsAt, termAt, product, extracted, weighedAt}
 use Rattle.design.specs.Counted.{Counted}
-use Rattle.design.proofs.Runs.{count-is, rows-are}
+use Rattle.design.proofs.Runs.{withTerms, count-is, rows-are}
 use Rattle.outcome.specs.Scratch.{countOf, heightIn, residualsIn, bIn, skyIn, solvedIn, Fits}
 use Rattle.outcome.proofs.Front.{renewed, Renewed, front-part, front-above}
 use Rattle.outcome.proofs.Runs.{weighed-are}
@@ -55,14 +55,11 @@ module _ {l : RunInputs} (c : Counted l) {w ys : List Float} {k : ℕ} (r : Rene
 
 -- ---- no residual knows how many terms there are
 
-abbrev pub others : RunInputs → ℕ → RunInputs
-others l m = runInputs m (l .names) (l .free) (l .dh) (l .dd) (l .pier) (l .sheets) (l .used) (l .settings)
-
-pub residuals-same : (l : RunInputs) (m : ℕ) (s : List Float) → residualsUnder (runFrom (others l m)) s ≡ residualsUnder (runFrom l) s
+pub residuals-same : (l : RunInputs) (m : ℕ) (s : List Float) → residualsUnder (runFrom (withTerms l m)) s ≡ residualsUnder (runFrom l) s
 unfolding residualsUnder
 residuals-same l m s = refl
 
-chi2-same : (l : RunInputs) (m : ℕ) (s : List Float) → chi2At (runFrom (others l m)) s ≡ chi2At (runFrom l) s
+chi2-same : (l : RunInputs) (m : ℕ) (s : List Float) → chi2At (runFrom (withTerms l m)) s ≡ chi2At (runFrom l) s
 unfolding chi2At skyResiduals residualsUnder
 chi2-same l m s = refl
 
@@ -72,8 +69,8 @@ pub proposes : {l : RunInputs} (c : Counted l) (k lambda : Float) (s w ys set : 
     → (solvedIn l w a ≡ lmStep (runFrom l) k lambda s)
     × ((bIn l w ≡ weighedResiduals (runFrom l) k s) × (skyIn l w ≡ skyResiduals (runFrom l) s))
     → take (length s) set ≡ moved (l .free) (a .x) s
-    → (chi2 ≡ chi2At (runFrom (others l (length (take (length s) set)))) (take (length s) set))
-    × (residualsIn l ys ≡ residualsUnder (runFrom (others l (length (take (length s) set)))) (take (length s) set))
+    → (chi2 ≡ chi2At (runFrom (withTerms l (length (take (length s) set)))) (take (length s) set))
+    × (residualsIn l ys ≡ residualsUnder (runFrom (withTerms l (length (take (length s) set)))) (take (length s) set))
     → Proposed l k lambda s (renewed w ys (4 * countOf l)) set chi2 a
 proposes {l} c k lambda s w ys set chi2 a r p e q =
     let n = countOf l in
@@ -142,17 +139,17 @@ loop-begins {l} c o s w norm chi2 long en ec left =
 
 module _ {l : RunInputs} {o : IterOptions} {s₀ : List Float} {size : ℕ} {s w : List Float} {i : ℕ} {converged : Bool} {lambda norm chi2 : Float}
     (u : Looping l o s₀ size s w i converged lambda norm chi2) where
-  pub loop-ready : (w₀ : List Float) → Fits l w₀ → size ≡ length w₀ → Fits (others l (length s)) w × Left (others l (length s)) s w
+  pub loop-ready : (w₀ : List Float) → Fits l w₀ → size ≡ length w₀ → Fits (withTerms l (length s)) w × Left (withTerms l (length s)) s w
   loop-ready w₀ f e = rw (u .long) (record { counted = f .counted; room = rw (u .room, e) (f .room) }, u .left)
 
-  pub loop-left : (y w′ : List Float) → Left (others l (length s)) y w′ → Left l y w′
+  pub loop-left : (y w′ : List Float) → Left (withTerms l (length s)) y w′ → Left l y w′
   loop-left y w′ e = e ∙ residuals-same l (length s) y
 
   pub loop-over : o .«max_iter» ≤ i → report s i converged lambda norm chi2 ≡ lmLoop (runFrom l) o s₀
   loop-over h = rw (u .not-yet) (ran-out (trials (runFrom l) o) (o .«max_iter») _ _ i h (u .comes))
 
   -- a trial gave t and left the set y
-  module _ (more : i < o .«max_iter») (t : Trial) (y : List Float) (did : triedTo t y ≡ trialOf (runFrom (others l (length s))) o chi2 lambda s) where
+  module _ (more : i < o .«max_iter») (t : Trial) (y : List Float) (did : triedTo t y ≡ trialOf (runFrom (withTerms l (length s))) o chi2 lambda s) where
     tried : triedTo t y ≡ trialOf (runFrom l) o chi2 lambda s
     tried = rw (u .long) at did
 
@@ -165,7 +162,7 @@ module _ {l : RunInputs} {o : IterOptions} {s₀ : List Float} {size : ℕ} {s w
     -- and scratch w′
     goes : (w′ : List Float) (lambda′ norm′ chi2′ : Float)
         → report y (i + 1) false lambda′ norm′ chi2′ ≡ answered o (report s i false lambda norm chi2) t y → leaves o t ≡ false
-        → length y ≡ length s → length w′ ≡ length w → Left (others l (length s)) y w′ → Looping l o s₀ size y w′ (i + 1) converged lambda′ norm′ chi2′
+        → length y ≡ length s → length w′ ≡ length w → Left (withTerms l (length s)) y w′ → Looping l o s₀ size y w′ (i + 1) converged lambda′ norm′ chi2′
     goes w′ lambda′ norm′ chi2′ e h ly lw left =
         record {
           few = omega arith;
@@ -180,7 +177,7 @@ module _ {l : RunInputs} {o : IterOptions} {s₀ : List Float} {size : ℕ} {s w
     ends z e h = is-left (trials (runFrom l) o) (o .«max_iter») _ _ i more (u .comes) z (e ∙ turned) (left-by ∙ h)
 
     module _ (next step : Float) (is : t ≡ Accepted next step) where
-      pub accepted-on : (w′ : List Float) → lt step (o .«tol_rad») ≡ false → length y ≡ length s → length w′ ≡ length w → Left (others l (length s)) y w′
+      pub accepted-on : (w′ : List Float) → lt step (o .«tol_rad») ≡ false → length y ≡ length s → length w′ ≡ length w → Left (withTerms l (length s)) y w′
           → Looping l o s₀ size y w′ (i + 1) converged (lambda ⊘ o .«lambda_down») step next
       accepted-on w′ h = goes w′ (lambda ⊘ o .«lambda_down») step next (rw (is, h) refl) (rw is h)
 
@@ -188,7 +185,7 @@ module _ {l : RunInputs} {o : IterOptions} {s₀ : List Float} {size : ℕ} {s w
       accepted-ends h = ends _ (rw (is, h) refl) (rw is h)
 
     module _ (raised : Float) (is : t ≡ Rejected raised) where
-      pub rejected-on : (w′ : List Float) → lt lambdaLimit raised ≡ false → length y ≡ length s → length w′ ≡ length w → Left (others l (length s)) y w′
+      pub rejected-on : (w′ : List Float) → lt lambdaLimit raised ≡ false → length y ≡ length s → length w′ ≡ length w → Left (withTerms l (length s)) y w′
           → Looping l o s₀ size y w′ (i + 1) converged raised norm chi2
       rejected-on w′ h = goes w′ raised norm chi2 (rw is refl) (rw is h)
 

@@ -5,7 +5,6 @@ use mathlib.Core.Path.{_≡_, refl, sym, ap, _∙_, subst}
 use mathlib.Core.Bool.{Bool, true, false, cond}
 use mathlib.Core.List.{List, _++_, zipWith}
 use lib.ListN.{length, take, drop, replicate}
-use lib.Seq.{length-take-le}
 use lib.Ieee.{Float, binary64, sub, le}
 use Rattle.float.specs.Float.{#0}
 use Rattle.linalg.specs.declared.SolveOutcome.{SolveOutcome}
@@ -17,17 +16,17 @@ use Rattle.solver.specs.Call.{buffers}
 use Rattle.best.specs.ChiSquare.{chi}
 use Rattle.design.specs.Design.{Run, RunInputs, runFrom, scattered}
 use Rattle.design.specs.Counted.{Counted}
-use Rattle.design.proofs.Runs.{count-is}
+use Rattle.design.proofs.Runs.{withTerms, count-is}
 use Rattle.stats.specs.declared.Sky.{Sky}
 use Rattle.stats.specs.Stats.{sumSqSky, skyOfSum, skyFrom, variance, sigmaAt}
 use Rattle.outcome.specs.Outcome.{diagnosticFrom, diagnosticNumbers, answerOf, outcome}
-use Rattle.outcome.specs.Scratch.{countOf, heightIn, residualsIn, columnsIn, solvedIn, Fits}
+use Rattle.outcome.specs.Scratch.{countOf, heightIn, residualsIn, columnsIn, solvedIn}
 use Rattle.outcome.proofs.Front.{renewed, Renewed, front-long, front-fits, front-again, front-count, front-rest}
 use Rattle.outcome.proofs.Laws.{InOrder, damped-in-order, finishes}
 use Rattle.lm_system.specs.System.{residualsUnder, skyResiduals, chi2At, lmStep}
 use Rattle.iterated.specs.declared.LmLoopResult.{LmLoopResult}
 use Rattle.iterated.specs.Iterated.{proposal, Report, lmLoop, lastStep, lastSet, lastChi2, freeResiduals, reported, fittedRun, Left, LastTried}
-use Rattle.iterated.proofs.Laws.{others, residuals-same}
+use Rattle.iterated.proofs.Laws.{residuals-same}
 use Rattle.iterated.proofs.Best.{known-end}
 
 -- ---- the chi-square of a set, and what it says of the set on the sky
@@ -62,14 +61,9 @@ pub record Written (l : RunInputs) (need : ℕ) (start out ys zs set scratch v w
   pub worked : Renewed scratch v need
   pub ended : Renewed (renewed scratch v need) w need
 
--- the run that is handed on has its number of terms from the set
-pub run-ready : (l : RunInputs) (m need : ℕ) (w : List Float) → m ≡ l .m → Counted l → 8 * countOf l + l .m * heightIn l ≤ need → need ≤ length w
-    → Fits (others l m) (take need w)
-run-ready l m need w e c room fits = rw e (record { counted = c; room = rw (length-take-le need w fits) room })
-
 -- the last trial begins where the loop ended
-pub left-again : (l : RunInputs) (m m′ need : ℕ) (out zs scratch v : List Float) → Renewed out zs (l .m) → Renewed scratch v need → Left (others l m) zs v
-    → Left (others l m′) (take (l .m) (renewed out zs (l .m))) (take need (renewed scratch v need))
+pub left-again : (l : RunInputs) (m m′ need : ℕ) (out zs scratch v : List Float) → Renewed out zs (l .m) → Renewed scratch v need → Left (withTerms l m) zs v
+    → Left (withTerms l m′) (take (l .m) (renewed out zs (l .m))) (take need (renewed scratch v need))
 left-again l m m′ need out zs scratch v r t e = rw (front-again r, front-again t) (e ∙ residuals-same l m zs ∙ sym (residuals-same l m′ zs))
 
 -- what the loop came to, and the last trial from there
@@ -101,8 +95,8 @@ module _ {l : RunInputs} {need : ℕ} {start out ys zs set scratch v w : List Fl
   scratch-is d e = rw (e, front-count (t .ended), front-rest (t .ended), front-rest (t .worked)) refl
 
   pub searched : (o : IterOptions) (how : LmLoopResult) (least : Float) (a : SolveOutcome)
-      → record { set = zs; how = how } ≡ lmLoop (runFrom (others l (length (take (l .m) (renewed out ys (l .m)))))) o (take (l .m) (renewed out ys (l .m)))
-      → LastTried (others l (length (take (l .m) looped-out))) o (how .«prev_chi2») (take (l .m) looped-out) w set least a
+      → record { set = zs; how = how } ≡ lmLoop (runFrom (withTerms l (length (take (l .m) (renewed out ys (l .m)))))) o (take (l .m) (renewed out ys (l .m)))
+      → LastTried (withTerms l (length (take (l .m) looped-out))) o (how .«prev_chi2») (take (l .m) looped-out) w set least a
       → Searched l o start set w how least a
   searched o how least a e q =
       let loop : record { set = zs; how = how } ≡ lmLoop (runFrom l) o start = rw (front-count (t .begun), front-again (t .begun), t .begins) at e in

@@ -11,15 +11,12 @@ use Rattle.sequence.specs.Sequence.{at}
 use Rattle.best.specs.Trials.{Trials, after}
 use Rattle.linalg.specs.declared.SolveOutcome.{SolveOutcome}
 use Rattle.linalg.specs.Linalg.{Solved}
-use Rattle.solver.specs.declared.Fit.the-variants.{Refused}
 use Rattle.solver.specs.declared.IterOptions.{IterOptions}
 use Rattle.solver.specs.declared.IterReport.{IterReport}
 use Rattle.solver.specs.Call.{FitInputs, Buffers, sizesOf}
 use Rattle.validate.specs.Questions.{scratchNeeded, asked}
-use Rattle.validate.specs.declared.Asked.{Asked}
-use Rattle.validate.specs.declared.Asked.the-variants.{Pass, No}
 use Rattle.design.specs.Design.{Run, RunInputs, runFrom, runOf, rowsOf, product, extracted}
-use Rattle.outcome.specs.Outcome.{Outcome, outcome, finished}
+use Rattle.outcome.specs.Outcome.{Outcome, decided, finished}
 use Rattle.outcome.specs.Scratch.{residualsIn, bIn, skyIn, solvedIn}
 use Rattle.lm_system.specs.System.{residualsUnder, skyResiduals, chi2At, huberK, weighedResiduals, weighedColumn, lmStep, moved, stepNorm}
 use Rattle.iterated.specs.declared.LmLoopResult.{LmLoopResult}
@@ -142,12 +139,8 @@ fittedRun r need start o b =
 abbrev pub fitted : FitInputs → IterOptions → Buffers → Outcome
 fitted l o b = fittedRun (runOf l) (scratchNeeded (length (l .coefficients)) (length (l .dh))) (l .coefficients) o b
 
-abbrev pub decided : Asked → FitInputs → IterOptions → Buffers → Outcome
-decided Pass l o b = fitted l o b
-decided (No k) l o b = outcome (Refused k) b
-
 unfoldable pub iteratedOutcome : FitInputs → IterOptions → Buffers → Outcome
-iteratedOutcome l o b = decided (asked l o (sizesOf b)) l o b
+iteratedOutcome l o b = decided (asked l o (sizesOf b)) (fitted l o b) b
 
 -- ---- what the functions leave
 

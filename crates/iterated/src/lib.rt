@@ -1,5 +1,5 @@
-// The iterated fit: a loop of damped trials and one undamped trial at its end. Of all the sets that it tries it returns the best. It works
-// in the scratch that outcome describes. After solver/iterated.rs.
+// The iterated fit: a loop of damped trials and one undamped trial at its end. Of all the sets that it tries it returns the best, as
+// specs/Demand3.antt says. It works in the scratch that outcome describes. After solver/iterated.rs.
 
 ghost use mathlib.Core.Path.{_≡_};
 ghost use mathlib.Core.List.{zipWith};

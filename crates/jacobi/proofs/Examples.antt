@@ -17,7 +17,8 @@ bits l = map (ofBits binary64) l
 turning : factorised 4 2 2 (#1 ∷ #0 ∷ #1 ∷ #0 ∷ #1 ∷ #1 ∷ #0 ∷ #1 ∷ [])
     ≡ record {
       w = bits
-          (0x3fd4_cb7b_fb49_61b0 ∷ 0xbfe0_d2ca_0da1_530c ∷ 0x3feb_3888_0b46_03e4 ∷ 0xbfe0_d2ca_0da1_530c ∷ 0x3ff6_05a9_0c73_ab78 ∷ 0x3feb_3888_0b46_03e4 ∷ 0x3fe0_d2ca_0da1_530c ∷ 0x3feb_3888_0b46_03e4 ∷ []);
+          (0x3fd4_cb7b_fb49_61b0 ∷ 0xbfe0_d2ca_0da1_530c ∷ 0x3feb_3888_0b46_03e4 ∷ 0xbfe0_d2ca_0da1_530c
+          ∷ 0x3ff6_05a9_0c73_ab78 ∷ 0x3feb_3888_0b46_03e4 ∷ 0x3fe0_d2ca_0da1_530c ∷ 0x3feb_3888_0b46_03e4 ∷ []);
       made = 2;
       settled = true;
     }

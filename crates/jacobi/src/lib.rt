@@ -87,7 +87,8 @@ fn turns(alpha: f64, beta: f64, gamma: f64) -> bool
 // vector; the factors of gamma loaded after them, since it then takes them as another.
 fn turn_on(w: &mut [f64], x: usize, y: usize, z: usize, n: usize, c: f64, s: f64) -> Products
     requires { ⌜ (x + n ≤ y) × (y + n ≤ z) × (z + n ≤ length (now w)) ⌝ }
-    ensures { λ r. ⌜ (now (w .exit) ≡ turnOf c s n x y (now (w .entry))) × (r ≡ products n x z (now (w .exit))) ⌝ }
+    ensures turned { λ _. ⌜ now (w .exit) ≡ turnOf c s n x y (now (w .entry)) ⌝ }
+    ensures sums { λ r. ⌜ r ≡ products n x z (now (w .exit)) ⌝ }
 {
     let mut gamma = 0.0;
     let mut alpha = 0.0;
@@ -167,8 +168,8 @@ fn turn_pair(
 ) -> Products
     requires { ⌜ (p < q) × (q < m) × (rows + m ≤ h) × (m * h ≤ length (now w)) × (a ≡ products rows (p * h) (q * h) (now w))
         × (turnsOf (a .alpha) (a .beta) (a .gamma) ≡ true) ⌝ }
-    ensures { λ r. ⌜ ((b : Bool) → record { w = now (w .exit); turned = true } ≡ pairOf h rows m p q (record { w = now (w .entry); turned = b }))
-        × (q + 1 < m → r ≡ products rows (p * h) ((q + 1) * h) (now (w .exit))) ⌝ }
+    ensures turned { λ _. ⌜ ((b : Bool) → record { w = now (w .exit); turned = true } ≡ pairOf h rows m p q (record { w = now (w .entry); turned = b })) ⌝ }
+    ensures next { λ r. ⌜ (q + 1 < m → r ≡ products rows (p * h) ((q + 1) * h) (now (w .exit))) ⌝ }
 {
     let t = tangent(a.alpha, a.beta, a.gamma);
     let c = cosine(t);

@@ -9,7 +9,8 @@ use Rattle.sqrt.specs.Sqrt as Root
 use Rattle.jacobi.specs.Jacobi.{zetaOf, tanOf, cosOf, turn, pair, row, sweep, sweeps}
 use Rattle.column.specs.Column.{norm, norms, scaleOf, scaledColumn, unitColumn, columns, diagonal, diagonals, extended}
 use Rattle.order.specs.Order.{best, order}
-use Rattle.linalg.specs.Linalg.{threshold, inverse, inverses, rankTo, projected, xScaled, solution, scaledVariance, covariance, leverageOf, decomposed, Solved, answered, solved, solvedDamped, leverageAfter}
+use Rattle.linalg.specs.Linalg.{threshold, inverse, inverses, rankTo, projected, xScaled, solution, scaledVariance, covariance}
+use Rattle.linalg.specs.Linalg.{leverageOf, decomposed, Solved, answered, solved, solvedDamped, leverageAfter}
 
 abbrev #10 : Float
 #10 = ofBits binary64 0x4024_0000_0000_0000

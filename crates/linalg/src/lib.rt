@@ -271,9 +271,9 @@ pub fn solve_and_covariance(
     fit_tol: f64,
 ) -> SolveOutcome
     requires { ⌜ (0 < m) × (m ≤ maxTerms) × (rows + m ≤ h) × (c + m * h ≤ length (now w)) × (n ≤ rows) × (b + n ≤ c) ⌝ }
-    ensures { λ r. ⌜ (record { outcome = r; w = part (now (w .exit)) c (m * h) } ≡ solved h rows m (part (now (w .entry)) c (m * h))
-        (part (now (w .entry)) b n) «fit_tol»)
-        × Only c (m * h) (now (w .entry)) (now (w .exit)) ⌝ }
+    ensures solution { λ r. ⌜ record { outcome = r; w = part (now (w .exit)) c (m * h) }
+        ≡ solved h rows m (part (now (w .entry)) c (m * h)) (part (now (w .entry)) b n) «fit_tol» ⌝ }
+    ensures only { λ _. ⌜ Only c (m * h) (now (w .entry)) (now (w .exit)) ⌝ }
 {
     let k = m * h;
     let d = decompose(&mut w[c..c + k], h, rows, m);
@@ -295,9 +295,9 @@ pub fn solve_damped(
     fit_tol: f64,
 ) -> SolveOutcome
     requires { ⌜ (0 < m) × (m ≤ maxTerms) × (rows + m + m ≤ h) × (c + m * h ≤ length (now w)) × (b + rows ≤ c) ⌝ }
-    ensures { λ r. ⌜ (record { outcome = r; w = part (now (w .exit)) c (m * h) } ≡ solvedDamped h rows m (part (now (w .entry)) c (m * h))
-        (part (now (w .entry)) b rows) lambda «fit_tol»)
-        × Only c (m * h) (now (w .entry)) (now (w .exit)) ⌝ }
+    ensures solution { λ r. ⌜ record { outcome = r; w = part (now (w .exit)) c (m * h) }
+        ≡ solvedDamped h rows m (part (now (w .entry)) c (m * h)) (part (now (w .entry)) b rows) lambda «fit_tol» ⌝ }
+    ensures only { λ _. ⌜ Only c (m * h) (now (w .entry)) (now (w .exit)) ⌝ }
 {
     if lambda <= 0.0 {
         return solve_and_covariance(w, c, h, rows, m, b, rows, fit_tol);

@@ -36,7 +36,8 @@ fn put_bytes(out: &mut [u8], at: usize, text: &[u8]) -> usize
 // The bytes before the first zero.
 fn put_name(out: &mut [u8], at: usize, name: [u8; 16]) -> usize
     requires { ⌜ at + 16 ≤ length (now out) ⌝ }
-    ensures { λ r. ⌜ Wrote (nameOf name) at (now (out .entry)) (now (out .exit)) r × (r ≤ at + 16) ⌝ }
+    ensures wrote { λ r. ⌜ Wrote (nameOf name) at (now (out .entry)) (now (out .exit)) r ⌝ }
+    ensures bound { λ r. ⌜ r ≤ at + 16 ⌝ }
 {
     for i in 0..16usize {
         if name[i] == 0 {
@@ -80,7 +81,8 @@ fn hex_digits(v: u64) -> [u8; 16]
 
 fn put_bits(out: &mut [u8], at: usize, x: f64) -> usize
     requires { ⌜ at + 16 ≤ length (now out) ⌝ }
-    ensures { λ r. ⌜ Wrote (bitsOf x) at (now (out .entry)) (now (out .exit)) r × (r ≡ at + 16) ⌝ }
+    ensures wrote { λ r. ⌜ Wrote (bitsOf x) at (now (out .entry)) (now (out .exit)) r ⌝ }
+    ensures end { λ r. ⌜ r ≡ at + 16 ⌝ }
 {
     let text = hex_digits(float::to_bits(x));
     put_bytes(out, at, &text)
@@ -89,7 +91,8 @@ fn put_bits(out: &mut [u8], at: usize, x: f64) -> usize
 // Two floats behind a name, to the end of the line.
 fn put_floats(out: &mut [u8], at: usize, x: f64, y: f64) -> usize
     requires { ⌜ at + 35 ≤ length (now out) ⌝ }
-    ensures { λ r. ⌜ Wrote (floats x y) at (now (out .entry)) (now (out .exit)) r × (r ≡ at + 35) ⌝ }
+    ensures wrote { λ r. ⌜ Wrote (floats x y) at (now (out .entry)) (now (out .exit)) r ⌝ }
+    ensures end { λ r. ⌜ r ≡ at + 35 ⌝ }
 {
     let a = put_byte(out, at, b' ');
     let b = put_bits(out, a, x);
@@ -101,7 +104,8 @@ fn put_floats(out: &mut [u8], at: usize, x: f64, y: f64) -> usize
 // A space and a number.
 fn put_count(out: &mut [u8], at: usize, v: usize) -> usize
     requires { ⌜ at + 21 ≤ length (now out) ⌝ }
-    ensures { λ r. ⌜ Wrote (spaced v) at (now (out .entry)) (now (out .exit)) r × (r ≤ at + 21) ⌝ }
+    ensures wrote { λ r. ⌜ Wrote (spaced v) at (now (out .entry)) (now (out .exit)) r ⌝ }
+    ensures bound { λ r. ⌜ r ≤ at + 21 ⌝ }
 {
     let a = put_byte(out, at, b' ');
     put_decimal(out, a, v)
@@ -110,7 +114,8 @@ fn put_count(out: &mut [u8], at: usize, v: usize) -> usize
 // Free, rank, iterations, converged.
 fn put_counts(out: &mut [u8], at: usize, r: FitResult) -> usize
     requires { ⌜ at + 71 ≤ length (now out) ⌝ }
-    ensures { λ n. ⌜ Wrote (countsLine r) at (now (out .entry)) (now (out .exit)) n × (n ≤ at + 71) ⌝ }
+    ensures wrote { λ n. ⌜ Wrote (countsLine r) at (now (out .entry)) (now (out .exit)) n ⌝ }
+    ensures bound { λ n. ⌜ n ≤ at + 71 ⌝ }
 {
     let rank_info = r.rank_info;
     let iter_report = r.iter_report;
@@ -128,7 +133,8 @@ fn put_counts(out: &mut [u8], at: usize, r: FitResult) -> usize
 // The stored name of a slot's term, its coefficient and its sigma.
 fn put_term(out: &mut [u8], at: usize, slot: &[u8], coefficient: f64, sigma: f64) -> usize
     requires { ⌜ at + 51 ≤ length (now out) ⌝ }
-    ensures { λ r. ⌜ Wrote (termLine (now (slot .entry)) coefficient sigma) at (now (out .entry)) (now (out .exit)) r × (r ≤ at + 51) ⌝ }
+    ensures wrote { λ r. ⌜ Wrote (termLine (now (slot .entry)) coefficient sigma) at (now (out .entry)) (now (out .exit)) r ⌝ }
+    ensures bound { λ r. ⌜ r ≤ at + 51 ⌝ }
 {
     let reading = terms::read_term(slot);
     let term = reading.term;
@@ -146,8 +152,9 @@ fn put_terms(
     sigma: &[f64],
 ) -> usize
     requires { ⌜ (at + 51 * m ≤ length (now out)) × (slotBytes * m ≤ length (now names)) × (m ≤ length (now coefficients)) × (m ≤ length (now sigma)) ⌝ }
-    ensures { λ r. ⌜ Wrote (termLines (now (names .entry)) m (now (coefficients .entry)) (now (sigma .entry))) at (now (out .entry)) (now (out .exit)) r
-        × (r ≤ at + 51 * m) ⌝ }
+    ensures wrote { λ r. ⌜ Wrote (termLines (now (names .entry)) m (now (coefficients .entry)) (now (sigma .entry))) at
+        (now (out .entry)) (now (out .exit)) r ⌝ }
+    ensures bound { λ r. ⌜ r ≤ at + 51 * m ⌝ }
 {
     let mut next = at;
     for j in 0..m {

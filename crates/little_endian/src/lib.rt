@@ -7,14 +7,16 @@ ghost use Rattle.little_endian.specs.LittleEndian.{numberAt, floatAt};
 
 // A byte.
 pub fn wide(b: u8) -> u64
-    ensures { λ r. ⌜ (r ≡ b) × (r < 256) ⌝ }
+    ensures value { λ r. ⌜ r ≡ b ⌝ }
+    ensures bound { λ r. ⌜ r < 256 ⌝ }
 {
     b as u64
 }
 
 // A byte as a length.
 pub fn size(b: u8) -> usize
-    ensures { λ r. ⌜ (r ≡ b) × (r < 256) ⌝ }
+    ensures value { λ r. ⌜ r ≡ b ⌝ }
+    ensures bound { λ r. ⌜ r < 256 ⌝ }
 {
     b as usize
 }
@@ -22,7 +24,8 @@ pub fn size(b: u8) -> usize
 // Two bytes.
 pub fn u16_at(s: &[u8], i: usize) -> u64
     requires { ⌜ i + 2 ≤ length (now s) ⌝ }
-    ensures { λ r. ⌜ (r ≡ numberAt (now (s .entry)) i 2) × (r < 65536) ⌝ }
+    ensures value { λ r. ⌜ r ≡ numberAt (now (s .entry)) i 2 ⌝ }
+    ensures bound { λ r. ⌜ r < 65536 ⌝ }
 {
     wide(s[i]) + 256 * wide(s[i + 1])
 }
@@ -30,7 +33,8 @@ pub fn u16_at(s: &[u8], i: usize) -> u64
 // Four bytes.
 fn u32_at(s: &[u8], i: usize) -> u64
     requires { ⌜ i + 4 ≤ length (now s) ⌝ }
-    ensures { λ r. ⌜ (r ≡ numberAt (now (s .entry)) i 4) × (r < 4294967296) ⌝ }
+    ensures value { λ r. ⌜ r ≡ numberAt (now (s .entry)) i 4 ⌝ }
+    ensures bound { λ r. ⌜ r < 4294967296 ⌝ }
 {
     u16_at(s, i) + 65536 * u16_at(s, i + 2)
 }

@@ -1,4 +1,4 @@
--- Which kinds of terms are rotational, as the code tests it: proofs/ByName.antt has that this is so by their names. Definitions only.
+-- Which kinds of terms are rotational, as the code tests it: proofs/ByName.antt has that this is so by name, of every name that is read. Definitions only.
 use mathlib.Core.Bool.{Bool, true, false}
 use Rattle.equatorial.specs.declared.EquatorialTerm.the-variants.{IH, ID, CH, NP, MA, ME, TF, TX, TXN, DAF, FO, HCES, HCEC, DCES, DCEC}
 use Rattle.equatorial.specs.declared.EquatorialTerm.{EquatorialTerm}

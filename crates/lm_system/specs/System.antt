@@ -39,7 +39,8 @@ chi2At r s = chi (hour r s) (dec r s) (length (r .stars))
 
 -- ---- build_lm_system and solve_damped
 
--- k_sigma, for n stars, of a robust fit whose chi-square is above 0; else 0, with which nothing is weighed. (n >= free is question 13's.)
+-- k_sigma, for n stars, of a robust fit whose chi-square is above 0; else 0, with which nothing is weighed. The Rust's test n >= free holds of every run
+-- that is fitted (`used-enough` of `Counted`)
 unfoldable pub huberFrom : ℕ → ℕ → IterOptions → Float → Float
 huberFrom n free o chi2 = cond (o .robust && lt #0 chi2) (o .«huber_k» ⊗ sqrt (chi2 ⊘ count (degrees (2 * n) free))) #0
 

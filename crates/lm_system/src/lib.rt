@@ -2,7 +2,7 @@
 // scratch is the one that outcome describes. After the functions below the loop in solver/iterated.rs.
 
 ghost use mathlib.Core.Path.{_≡_};
-ghost use mathlib.Core.List.{List, []};
+ghost use mathlib.Core.List.{[]};
 ghost use Prim.Native.Nat.{_+_, _*_, _≤_};
 ghost use lib.ListN.{length, take};
 ghost use Rattle.limits.specs.Limits.{maxTerms, maxStars, sheetNumbers};
@@ -19,6 +19,9 @@ use linalg::SolveOutcome;
 use solver::IterOptions;
 use solver::Settings;
 use terms::TermKind;
+
+// The arcseconds in a radian.
+const RADIAN: f64 = 206264.806247;
 
 // The differences less what a set predicts, behind a column's room in v, 4·n numbers.
 pub fn residuals_under_state(
@@ -68,7 +71,7 @@ pub fn chi2_at_state(
     stats::sum_sq_sky(sheets, dh.len(), used, &u[rows..rows + rows])
 }
 
-// A row is weighed where its residual is above this; none is where this isn't above 0. There are n stars.
+// A row is weighed where the size of its residual is above this; none is where this isn't above 0. There are n stars.
 pub fn huber_threshold(n: usize, free: usize, options: IterOptions, chi2: f64) -> f64
     requires { ⌜ n ≤ maxStars ⌝ }
     ensures { λ r. ⌜ r ≡ huberFrom n free options chi2 ⌝ }
@@ -134,7 +137,7 @@ pub fn lm_step(
     linalg::solve_damped(w, c, h, rows, free.len(), b, lambda, s.fit_tol)
 }
 
-// The numbers of a set, and zeros after them.
+// The numbers of a set, at the front of an array.
 fn padded(set: &[f64]) -> [f64; MAX_TERMS]
     requires { ⌜ length (now set) ≤ maxTerms ⌝ }
     ensures { λ r. ⌜ take (length (now (set .entry))) r ≡ now (set .entry) ⌝ }
@@ -145,7 +148,7 @@ fn padded(set: &[f64]) -> [f64; MAX_TERMS]
     t
 }
 
-// Each free coefficient of a set moves by its place in x.
+// Each free coefficient of a set moves by the number at its place in x.
 fn move_free(free: &[u16], x: &[f64; MAX_TERMS], set: &mut [f64])
     requires { ⌜ (length (now free) ≤ maxTerms) × Below (length (now set)) (now free) ⌝ }
     ensures { λ _. ⌜ now (set .exit) ≡ moved (now (free .entry)) (now (x .entry)) (now (set .entry)) ⌝ }
@@ -205,7 +208,7 @@ fn larger(kind: TermKind, x: f64, most: f64) -> f64
     if !rotational(kind) {
         return most;
     }
-    let step = float::abs(x) / 206264.806247;
+    let step = float::abs(x) / RADIAN;
     if step > most {
         return step;
     }
@@ -233,7 +236,7 @@ pub fn rotational_step_norm(names: &[u8], free: &[u16], x: &[f64]) -> f64
 {
     let most = largest(names, free, x);
     if most == 0.0 {
-        return sqrt::sqrt(sequence::sum_squares(x)) / 206264.806247;
+        return sqrt::sqrt(sequence::sum_squares(x)) / RADIAN;
     }
     most
 }

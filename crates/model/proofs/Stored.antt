@@ -16,7 +16,7 @@ use Rattle.harmonic.specs.Table.{ascii}
 use Rattle.harmonic.specs.Harmonic.{arrayOf, parseHarmonic}
 use Rattle.harmonic.specs.declared.HarmonicRead.{HarmonicRead}
 use Rattle.equatorial.specs.declared.EquatorialTerm.the-variants.{TXN}
-use Rattle.terms.specs.Names.{same, accepted, refused, capital, padded, nameOf, wellFormed, readTerm, byKnown, find, fixedNames, numbered, readHarmonic, harmonicOf, unsigned, digitsFrom, decimal}
+use Rattle.terms.specs.Names.{same, accepted, refused, capital, padded, nameOf, wellFormed, readTerm, byKnown, find, fixedNames, numbered, readHarmonic, harmonicOf, unsigned, digitsFrom, shortDecimal}
 use Rattle.terms.specs.declared.Reading.{Reading}
 use Rattle.terms.specs.declared.TermKind.{TermKind}
 use Rattle.terms.specs.declared.names.Known.{Known}
@@ -127,7 +127,7 @@ all-at (suc n) i p e h =
     last-or i n h (λ g. all-at n i p (left-of (allTo n p) (p n) e) g) (λ q. ap p q ∙ right-of (allTo n p) (p n) e)
 
 abbrev numberName : ℕ → List ℕ
-numberName v = padded (ascii "TX" ++ decimal v)
+numberName v = padded (ascii "TX" ++ shortDecimal v)
 
 good : ℕ → Bool
 good v =
@@ -171,7 +171,7 @@ module _ (P : List ℕ → Type 0) (n : List ℕ) (same-name : P (padded n)) (nu
   of-number : (o : Option ℕ) → numbered o .refusal ≡ 0 → P (numbered o .term .name)
   of-number none e = absurd (omega arith)
   of-number (some v) e =
-      either (leb 1 v && leb v 255) (accepted (TermKind.Equatorial (TXN v)) (ascii "TX" ++ decimal v) (arrayOf [])) (refused 9) e (λ q z. number-name v q) (λ z. absurd (omega arith))
+      either (leb 1 v && leb v 255) (accepted (TermKind.Equatorial (TXN v)) (ascii "TX" ++ shortDecimal v) (arrayOf [])) (refused 9) e (λ q z. number-name v q) (λ z. absurd (omega arith))
 
   of-harmonic : (h : HarmonicRead) → harmonicOf n h .refusal ≡ 0 → P (harmonicOf n h .term .name)
   of-harmonic h e = either (h .ok) (accepted (TermKind.Harmonic (h .result)) n (h .components)) (refused 10) e (λ q z. same-name) (λ z. absurd (omega arith))

@@ -24,7 +24,7 @@ use Rattle.terms.specs.Questions.{firstNo}
 use Rattle.terms.specs.Slots.{slot, firstOf, namesRefusal}
 use Rattle.terms.proofs.First.{first-step, first-same}
 use Rattle.model.specs.Slots.{noNumbers, hasName}
-use Rattle.model.specs.Model.{newModel, asked, refusalOf, termNames, termCoefficients, modelRefusal, changed, withTerm, addTerm, setCoefficients}
+use Rattle.model.specs.Model.{newModel, ownNumber, refusalOf, termNames, termCoefficients, modelRefusal, changed, withTerm, addTerm, setCoefficients}
 use Rattle.model.specs.Correction.{pointRefusal, corrected, correctionAt, correction, noBreakdown, brokenDown, breakdownAt}
 use Rattle.model.specs.declared.PointingModel.{PointingModel}
 use Rattle.model.specs.declared.Breakdown.{Breakdown}
@@ -60,7 +60,7 @@ also m a b c d p e f =
 
 -- ---- the sum of the breakdown, in order, is the correction
 
-given-yes : (x : ℕ) (b : Breakdown) → firstNo noBreakdown b (asked x ∷ []) .refusal ≡ 0 → x ≡ 0
+given-yes : (x : ℕ) (b : Breakdown) → firstNo noBreakdown b (ownNumber x ∷ []) .refusal ≡ 0 → x ≡ 0
 given-yes x b e = by (eqb x 0) refl e
   where
     by : (t : Bool) → eqb x 0 ≡ t → cond t b (noBreakdown x) .refusal ≡ 0 → x ≡ 0

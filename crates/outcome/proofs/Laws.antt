@@ -8,6 +8,7 @@ use mathlib.Core.List.{List, [], _∷_, _++_, zipWith}
 use lib.ListN.{length, take, drop, replicate}
 use lib.Seq.{sets}
 use lib.Ieee.{Float, le}
+use Rattle.limits.specs.Limits.{maxTerms, maxStars}
 use Rattle.float.specs.Float.{#0}
 use Rattle.sequence.specs.Sequence.{part, Only}
 use Rattle.sequence.proofs.Parts.{length-part, part-sets-same, length-zip-part}
@@ -86,7 +87,7 @@ damped-in-order h rows m a b lambda fitTol = by (le lambda #0) refl
 -- what `finish` requires, after a solve s
 pub finish-ready : (l : RunInputs) (w sigma diagnostics : List Float) (o : SolveOutcome) (s : Solved) → Fits l w → solvedIn l w o ≡ s
     → InOrder (length (l .free)) (s .outcome) → l .m ≤ length sigma → 3 * countOf l ≤ length diagnostics
-    → (countOf l ≤ 1024) × (l .m ≤ 32) × (length (l .free) ≤ l .m) × Below (l .m) (l .free) × (8 * countOf l + length (l .free) * heightIn l ≤ length w)
+    → (countOf l ≤ maxStars) × (l .m ≤ maxTerms) × (length (l .free) ≤ l .m) × Below (l .m) (l .free) × (8 * countOf l + length (l .free) * heightIn l ≤ length w)
     × Placed (heightIn l) (columnsIn l w) (take (length (l .free)) (o .order))
     × (length (take (length (l .free)) (o .order)) ≡ length (l .free)) × (l .m ≤ length sigma) × (3 * countOf l ≤ length diagnostics)
 finish-ready l w sigma diagnostics o s f e q hs hd =

@@ -1,4 +1,5 @@
 pub mod Front
 pub mod Laws
 pub mod Runs
+pub mod Call
 pub mod Diagnostics

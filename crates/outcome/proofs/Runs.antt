@@ -4,28 +4,34 @@ use native.Mathlib.Omega.{arith}
 use mathlib.Core.Path.{_≡_, refl, sym, ap}
 use mathlib.Core.List.{List, [], _++_}
 use lib.ListN.{length, take, drop}
-use lib.Seq.{take-at}
+use lib.Seq.{length-take-le, take-at}
 use lib.Ieee.{Float, lt, ofBits}
+use Rattle.limits.specs.Limits.{maxTerms}
 use Rattle.float.specs.Float.{#0}
 use Rattle.solver.specs.Call.{FitInputs}
-use Rattle.design.specs.Design.{RunInputs, runInputs, runFrom, upTo, collectIndices, listed, sightsAt, skyOf, weighing, weighedAt}
-use Rattle.design.specs.Counted.{Seen, Named}
+use Rattle.design.specs.Design.{RunInputs, runInputs, runFrom, upTo, collectIndices, runInputsOf, sightsAt, skyOf, weighing, weighedAt}
+use Rattle.design.specs.Counted.{Seen, Named, Counted}
 use Rattle.design.proofs.Indices.{up-to-length}
-use Rattle.design.proofs.Runs.{count-is, sky-columns-are, seen, named, free-room}
+use Rattle.design.proofs.Runs.{withTerms, count-is, sky-columns-are, seen, named, free-room}
 use Rattle.stats.specs.declared.Sky.{Sky}
 use Rattle.stats.specs.Stats.{sumSqSky, skyOfSum, skyFrom}
 use Rattle.stats.proofs.Laws.{sum-sky-same}
 use Rattle.outcome.specs.Scratch.{countOf, heightIn, Fits}
 
+-- the front of scratch, for a run that has its number of terms from the set
+pub fits-front : (l : RunInputs) (m need : ℕ) (w : List Float) → m ≡ l .m → Counted l → 8 * countOf l + l .m * heightIn l ≤ need → need ≤ length w
+    → Fits (withTerms l m) (take need w)
+fits-front l m need w e c room fits = rw e (record { counted = c; room = rw (length-take-le need w fits) room })
+
 -- room for the columns of the free terms, which are at most 32
-pub fits-free : (l : RunInputs) (w : List Float) → Fits l w → (length (l .free) ≤ 32) × (8 * countOf l + length (l .free) * heightIn l ≤ length w)
+pub fits-free : (l : RunInputs) (w : List Float) → Fits l w → (length (l .free) ≤ maxTerms) × (8 * countOf l + length (l .free) * heightIn l ≤ length w)
 fits-free l w f =
     let c = f .counted in
     (omega (arith, c .free-few, c .terms), omega (arith, free-room l c (heightIn l), f .room))
 
 -- what `free_columns` requires, of a list v as long
 pub columns-ready : (l : RunInputs) (w v : List Float) → Fits l w → length v ≡ length w
-    → Seen (l .pier) (l .sheets) (l .used) × (length (l .free) ≤ 32) × Named (l .names) (l .free) × (2 * countOf l ≤ heightIn l) × (heightIn l ≤ 4096)
+    → Seen (l .pier) (l .sheets) (l .used) × (length (l .free) ≤ maxTerms) × Named (l .names) (l .free) × (2 * countOf l ≤ heightIn l) × (heightIn l ≤ 4096)
     × (8 * countOf l ≤ 8 * countOf l) × (8 * countOf l + length (l .free) * heightIn l ≤ length v)
 columns-ready l w v f e =
     let c = f .counted in
@@ -51,7 +57,7 @@ module _ (l : RunInputs) where
 -- a call's run, where the indices of its free terms and of its stars begin longer lists ts and us
 pub listed-is : (l : FitInputs) (k : ℕ) (ts d us e : List ℕ) → k ≡ length (collectIndices (l .fixed)) → ts ≡ collectIndices (l .fixed) ++ drop k d
     → us ≡ upTo (length (l .dh)) ++ drop (length (l .dh)) e
-    → runInputs (length (l .coefficients)) (l .names) (take k ts) (l .dh) (l .dd) (l .pier) (l .sheets) (take (length (l .dh)) us) (l .settings) ≡ listed l
+    → runInputs (length (l .coefficients)) (l .names) (take k ts) (l .dh) (l .dd) (l .pier) (l .sheets) (take (length (l .dh)) us) (l .settings) ≡ runInputsOf l
 listed-is l k ts d us e count is all =
     let n = length (l .dh) in
     let terms : take k ts ≡ collectIndices (l .fixed) = rw is (take-at (collectIndices (l .fixed)) (drop k d) k (sym count)) in

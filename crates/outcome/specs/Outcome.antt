@@ -1,20 +1,22 @@
 -- What both fits are made of after their last solve: sigma, diagnostics, the answer, and what each buffer holds at the end. Definitions only.
-use Prim.Native.Nat.{ℕ, zero, suc, _+_, _*_}
+use Prim.Native.Nat.{ℕ, _+_, _*_}
 use mathlib.Core.List.{List, [], _∷_, _++_}
 use lib.ListN.{length, drop, replicate}
 use lib.Ieee.{Float}
 use Rattle.float.specs.Float.{#0}
-use Rattle.sequence.specs.Sequence.{at}
+use Rattle.sequence.specs.Sequence.{at, concatTo}
 use Rattle.linalg.specs.declared.SolveOutcome.{SolveOutcome}
 use Rattle.linalg.specs.Linalg.{Solved, leverageAfter}
 use Rattle.solver.specs.declared.Fit.{Fit}
-use Rattle.solver.specs.declared.Fit.the-variants.{Done}
+use Rattle.solver.specs.declared.Fit.the-variants.{Done, Refused}
 use Rattle.solver.specs.declared.FitResult.{FitResult}
 use Rattle.solver.specs.declared.IterReport.{IterReport}
 use Rattle.solver.specs.declared.ObsDiagnostic.{ObsDiagnostic}
 use Rattle.solver.specs.declared.Settings.{Settings}
 use Rattle.solver.specs.Call.{Buffers, buffers}
 use Rattle.design.specs.Design.{Run, heightOf, scattered}
+use Rattle.validate.specs.declared.Asked.{Asked}
+use Rattle.validate.specs.declared.Asked.the-variants.{Pass, No}
 use Rattle.stats.specs.declared.Sky.{Sky}
 use Rattle.stats.specs.Stats.{skyFrom, variance, sigmaAt, deviation, diagnostic}
 
@@ -33,9 +35,8 @@ unfoldable pub diagnosticOf : Run → Solved → List Float → ℕ → ObsDiagn
 diagnosticOf r s res = diagnosticFrom (length (r .stars)) (s .outcome .rank) res (leverageAfter (heightOf r) (length (r .free)) s)
 
 -- residual, leverage and studentized residual of n stars, one star after the other
-unfoldable pub diagnosticNumbers : ℕ → (ℕ → ObsDiagnostic) → List Float
-diagnosticNumbers zero d = []
-diagnosticNumbers (suc n) d = diagnosticNumbers n d ++ (d n .«residual_sky» ∷ d n .leverage ∷ d n .studentized ∷ [])
+abbrev pub diagnosticNumbers : ℕ → (ℕ → ObsDiagnostic) → List Float
+diagnosticNumbers n d = concatTo n (λ i. d i .«residual_sky» ∷ d i .leverage ∷ d i .studentized ∷ [])
 
 -- what a fit answers, from the last solve and what is left on the sky under the set that is returned
 abbrev pub answerOf : ℕ → Settings → SolveOutcome → Sky → IterReport → FitResult
@@ -56,8 +57,13 @@ pub record Outcome : Type 0 where
 abbrev pub outcome : Fit → Buffers → Outcome
 outcome f b = record { answer = f; left = b }
 
+-- a call by the answer of its questions: the fit, or the refusal with every buffer as it was
+abbrev pub decided : Asked → Outcome → Buffers → Outcome
+decided Pass x b = x
+decided (No k) x b = outcome (Refused k) b
+
 -- an accepted fit of a run that needs so much of scratch: the set, its change, the last solve and the residuals res that it left, the residuals under
--- the set, and how it was come to
+-- the set, and how it was come to. The run's n is the page's in every call
 unfoldable pub finished : Run → ℕ → Buffers → List Float → List Float → Solved → List Float → List Float → IterReport → Outcome
 finished r need b set change s res under report =
     let m = r .m in

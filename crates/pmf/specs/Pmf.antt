@@ -14,9 +14,7 @@ use Rattle.solver.specs.declared.Fit.the-variants.{Done, Refused}
 use Rattle.solver.specs.declared.IterOptions.{IterOptions}
 use Rattle.solver.specs.Call.{FitInputs, Buffers, buffers, sizesOf}
 use Rattle.validate.specs.Questions.{asked}
-use Rattle.validate.specs.declared.Asked.{Asked}
-use Rattle.validate.specs.declared.Asked.the-variants.{Pass, No}
-use Rattle.outcome.specs.Outcome.{Outcome, outcome}
+use Rattle.outcome.specs.Outcome.{Outcome, decided}
 use Rattle.single_step.specs.SingleStep.{fitted as singleStep}
 use Rattle.iterated.specs.Iterated.{fitted as iterated}
 use Rattle.listing.specs.Listing.{fitText, refusalText, listingRoom}
@@ -58,12 +56,8 @@ unfoldable pub fitOf : ℕ → FitInputs → IterOptions → Buffers → Outcome
 fitOf mode l o b = cond (eqb mode 0) (singleStep l b) (iterated l o b)
 
 -- the questions are put to every field in every mode, then the fit is made
-abbrev pub decided : Asked → ℕ → FitInputs → IterOptions → Outcome
-decided Pass mode l o = fitOf mode l o room
-decided (No k) mode l o = outcome (Refused k) room
-
 unfoldable pub outcomeOf : ℕ → FitInputs → IterOptions → Outcome
-outcomeOf mode l o = decided (asked l o (sizesOf room)) mode l o
+outcomeOf mode l o = decided (asked l o (sizesOf room)) (fitOf mode l o room) room
 
 -- ---- the listing
 

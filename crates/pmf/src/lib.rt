@@ -62,7 +62,8 @@ fn mode_known(mode: u8) -> bool
 
 // Question 15 of the header, question 1, and question 15 of the length: the number of the first no, or 0.
 fn file_refusal(s: &[u8]) -> u8
-    ensures { λ r. ⌜ (r ≡ fileNo (now (s .entry))) × (r ≡ 0 → WellFormed (now (s .entry))) ⌝ }
+    ensures answer { λ r. ⌜ r ≡ fileNo (now (s .entry)) ⌝ }
+    ensures formed { λ r. ⌜ (r ≡ 0 → WellFormed (now (s .entry))) ⌝ }
 {
     if s.len() < 9 {
         return 15;

@@ -4,6 +4,7 @@
 ghost use mathlib.Core.Path.{_≡_};
 ghost use Prim.Native.Nat.{_+_, _*_, _<_, _≤_};
 ghost use lib.ListN.{length};
+ghost use Rattle.replay_calls.specs.Room.{Lent, InRoom};
 use replay::Held;
 use replay::hold;
 use replay::hold_all;
@@ -54,8 +55,7 @@ const ROBUST: u8 = 3;
 
 // The numbers of a call's head, after its mode.
 fn read_sizes() -> Sizes
-    ensures { λ r. ⌜ (r .m ≤ 40) × (r .n ≤ 1100) × (r .names ≤ 700) × (r .fixed ≤ 64) × (r .dd ≤ 1200) × (r .pier ≤ 1200) × (r .sheets ≤ 41000)
-        × (r .coefficients ≤ 64) × (r .change ≤ 64) × (r .sigma ≤ 64) × (r .diagnostics ≤ 3400) × (r .scratch ≤ 150000) ⌝ }
+    ensures { λ r. ⌜ InRoom r ⌝ }
 {
     let m = replay::small(40);
     let n = replay::small(1100);
@@ -200,8 +200,7 @@ fn read_all_sheets(pool: &[f64], numbers: &mut [f64], lent: usize)
 // The call's slices lie in two arrays: bytes (names from 0, flags from 1,024, pier codes from 2,048) and numbers (coefficients from 0,
 // hour-angle differences from 64, declination differences from 1,280, sheets from 2,560).
 fn read_input(s: Sizes, pool: &[f64], bytes: &mut [u8], numbers: &mut [f64])
-    requires { ⌜ (s .m ≤ 40) × (s .n ≤ 1100) × (s .names ≤ 700) × (s .fixed ≤ 64) × (s .dd ≤ 1200) × (s .pier ≤ 1200) × (s .sheets ≤ 41000)
-        × (37 * 400 ≤ length (now pool)) × (4096 ≤ length (now bytes)) × (43650 ≤ length (now numbers)) ⌝ }
+    requires { ⌜ Lent s × (37 * 400 ≤ length (now pool)) × (4096 ≤ length (now bytes)) × (43650 ≤ length (now numbers)) ⌝ }
 {
     read_bytes(bytes, 0, s.names);
     read_bytes(bytes, 1024, s.fixed);
@@ -351,8 +350,7 @@ fn fit(
     diagnostics: &mut [f64],
     scratch: &mut [f64],
 ) -> Fit
-    requires { ⌜ (s .m ≤ 40) × (s .n ≤ 1100) × (s .names ≤ 700) × (s .fixed ≤ 64) × (s .dd ≤ 1200) × (s .pier ≤ 1200) × (s .sheets ≤ 41000)
-        × (4096 ≤ length (now bytes)) × (43650 ≤ length (now numbers)) ⌝ }
+    requires { ⌜ Lent s × (4096 ≤ length (now bytes)) × (43650 ≤ length (now numbers)) ⌝ }
 {
     let zero = 0usize;
     let names = s.names;
@@ -421,8 +419,7 @@ fn call(
     diagnostics: &mut [f64],
     scratch: &mut [f64],
 ) -> Tally
-    requires { ⌜ (s .m ≤ 40) × (s .n ≤ 1100) × (s .names ≤ 700) × (s .fixed ≤ 64) × (s .dd ≤ 1200) × (s .pier ≤ 1200) × (s .sheets ≤ 41000)
-        × (4096 ≤ length (now bytes)) × (43650 ≤ length (now numbers)) ⌝ }
+    requires { ⌜ Lent s × (4096 ≤ length (now bytes)) × (43650 ≤ length (now numbers)) ⌝ }
 {
     let answer = fit(
         s,
@@ -506,9 +503,7 @@ fn scratch_room() -> [f64; 150000]
 
 // The call with buffers of the places that its head gives.
 fn lend(t: Tally, s: Sizes, p: Scalars, bytes: &[u8], numbers: &[f64]) -> Tally
-    requires { ⌜ (s .m ≤ 40) × (s .n ≤ 1100) × (s .names ≤ 700) × (s .fixed ≤ 64) × (s .dd ≤ 1200) × (s .pier ≤ 1200) × (s .sheets ≤ 41000)
-        × (s .coefficients ≤ 64) × (s .change ≤ 64) × (s .sigma ≤ 64) × (s .diagnostics ≤ 3400) × (s .scratch ≤ 150000) × (4096 ≤ length (now bytes))
-        × (43650 ≤ length (now numbers)) ⌝ }
+    requires { ⌜ InRoom s × (4096 ≤ length (now bytes)) × (43650 ≤ length (now numbers)) ⌝ }
 {
     let mut out = term_room();
     let mut change = term_room();

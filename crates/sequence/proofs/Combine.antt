@@ -4,21 +4,17 @@ use native.Mathlib.Nat.{le-antisymm}
 use native.Mathlib.Numerals.{add-one}
 use native.Mathlib.Omega.{arith}
 use mathlib.Core.Path.{_≡_, refl, sym, ap, _∙_}
-use mathlib.Core.Logic.{_⊎_, inl, inr}
+use mathlib.Core.Logic.{inl, inr}
 use mathlib.Core.List.{List, zipWith}
 use lib.ListN.{length, set, length-set}
 use lib.Seq.{sets}
 use lib.Ieee.{Float, nan}
-use Rattle.sequence.specs.Sequence.{part, at}
+use Rattle.sequence.specs.Sequence.{part, at, Beside}
 use Rattle.sequence.proofs.Parts.{zip-part, length-zip-part, sets-snoc, getD-sets-below, getD-sets-above}
 
--- n numbers from t on can be written one by one while those from p on are read
-abbrev pub Clear : ℕ → ℕ → ℕ → Type 0
-Clear t n p = (t ≤ p) ⊎ (p + n ≤ t)
-
-clear-at : (l : List Float) (t : ℕ) (vs : List Float) (n p : ℕ) → length vs < n → Clear t n p → at (sets l t vs) (p + length vs) ≡ at l (p + length vs)
-clear-at l t vs n p h (inl g) = getD-sets-above l t vs (p + length vs) nan (omega arith)
-clear-at l t vs n p h (inr g) = getD-sets-below l t vs (p + length vs) nan (omega arith)
+beside-at : (l : List Float) (t : ℕ) (vs : List Float) (p n : ℕ) → length vs < n → Beside t p n → at (sets l t vs) (p + length vs) ≡ at l (p + length vs)
+beside-at l t vs p n h (inl g) = getD-sets-above l t vs (p + length vs) nan (omega arith)
+beside-at l t vs p n h (inr g) = getD-sets-below l t vs (p + length vs) nan (omega arith)
 
 -- from t on, f of the k numbers from p on and those from q on
 abbrev pub combined : (Float → Float → Float) → List Float → ℕ → ℕ → ℕ → ℕ → List Float
@@ -35,14 +31,14 @@ module _ (f : Float → Float → Float) (l : List Float) (t p q n : ℕ) where
   unfolding zipWith
   start = record { few = omega arith; long = refl; is = refl }
 
-  pub next : (k : ℕ) (w : List Float) → p + n ≤ length l → q + n ≤ length l → Clear t n p → Clear t n q → k < n → Combining f l t p q n k w
+  pub next : (k : ℕ) (w : List Float) → p + n ≤ length l → q + n ≤ length l → Beside t p n → Beside t q n → k < n → Combining f l t p q n k w
       → Combining f l t p q n (k + 1) (set w (t + k) (f (at w (p + k)) (at w (q + k))))
   next k w hp hq cp cq h c =
       let F = zipWith f (part l p k) (part l q k) in
       let v = f (at l (p + k)) (at l (q + k)) in
       let m : length F ≡ k = length-zip-part f l p q k (omega arith) (omega arith) in
-      let ep : at (sets l t F) (p + k) ≡ at l (p + k) = rw m at (clear-at l t F n p (omega arith) cp) in
-      let eq : at (sets l t F) (q + k) ≡ at l (q + k) = rw m at (clear-at l t F n q (omega arith) cq) in
+      let ep : at (sets l t F) (p + k) ≡ at l (p + k) = rw m at (beside-at l t F p n (omega arith) cp) in
+      let eq : at (sets l t F) (q + k) ≡ at l (q + k) = rw m at (beside-at l t F q n (omega arith) cq) in
       record {
         few = omega arith;
         long = length-set w (t + k) (f (at w (p + k)) (at w (q + k))) ∙ c .long;

@@ -18,9 +18,6 @@ module _ {A : Type 0} (f : ℕ → List A) where
   unfolding concatTo
   concat-next n = rw (add-one n)
 
-  pub concat-end : (i n : ℕ) → i ≤ n → n ≤ i → concatTo i f ≡ concatTo n f
-  concat-end i n p q = ap (λ (k : ℕ). concatTo k f) (le-antisymm p q)
-
   -- where each has k elements
   module _ (k : ℕ) (sized : (i : ℕ) → length (f i) ≡ k) where
     pub concat-length : (n : ℕ) → length (concatTo n f) ≡ k * n

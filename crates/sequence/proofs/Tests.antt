@@ -27,9 +27,6 @@ right-of false b e = absurd (false≢true e)
 pub both : {a b : Bool} → a ≡ true → b ≡ true → (a && b) ≡ true
 both e f = rw (e, f) refl
 
-pub fails : {a b : Bool} → a ≡ true → b ≡ false → (a && b) ≡ false
-fails e f = rw (e, f) refl
-
 pub failed : {a : Bool} (b : Bool) → a ≡ false → (a && b) ≡ false
 failed b e = rw e refl
 

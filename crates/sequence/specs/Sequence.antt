@@ -1,5 +1,6 @@
 -- Lists as loops read and write them: tests, parts, tables, passes over indices, and sums from 0 in rising index. Definitions only.
 use Prim.Native.Nat.{ℕ, zero, suc, _+_, _≤_}
+use mathlib.Core.Logic.{_⊎_}
 use mathlib.Core.Path.{_≡_}
 use mathlib.Core.Bool.{Bool, true, false, _&&_, _||_, cond}
 use mathlib.Core.List.{List, [], _∷_, _++_, zipWith, foldl}
@@ -57,6 +58,10 @@ sumBut (suc n) skip f = cond (skip n) (sumBut n skip f) (sumBut n skip f ⊕ f n
 -- the sum of the products
 unfoldable pub dot : List Float → List Float → Float
 dot xs ys = foldl (add binary64) #0 (zipWith (mul binary64) xs ys)
+
+-- n numbers from x on can be written one by one while those from y on are read
+abbrev pub Beside : ℕ → ℕ → ℕ → Type 0
+Beside x y n = (x ≤ y) ⊎ (y + n ≤ x)
 
 -- of `was`, nothing but the n elements from x on has changed in `is`
 pub record Only {A : Type 0} (x n : ℕ) (was is : List A) : Type 0 where

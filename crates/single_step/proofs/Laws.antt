@@ -1,12 +1,13 @@
 -- What the step of the single-step fit leaves in scratch, and what its residuals come to. Assumes nothing.
-use Prim.Native.Nat.{ℕ, zero, suc, _+_, _-_, _*_, _≤_, _<_}
+use Prim.Native.Nat.{ℕ, _+_, _-_, _*_, _≤_, _<_}
 use native.Mathlib.Nat.{add-sub-cancel-left}
 use native.Mathlib.Omega.{arith}
 use mathlib.Core.Path.{_≡_, refl, ap, _∙_}
-use mathlib.Core.List.{List, [], _∷_, map, zipWith}
+use mathlib.Core.List.{List, [], map, zipWith}
 use lib.ListN.{length, take, drop}
 use lib.Seq.{sets, length-sets}
 use lib.Ieee.{Float, binary64, sub}
+use Rattle.limits.specs.Limits.{maxTerms}
 use Rattle.float.specs.Float.{#0}
 use Rattle.sequence.specs.Sequence.{at, part, Only}
 use Rattle.sequence.proofs.Parts.{length-part, part-take, part-sets-same}
@@ -23,13 +24,6 @@ use Rattle.outcome.specs.Scratch.{countOf, heightIn, bIn, skyIn, columnsIn, sol
 use Rattle.outcome.proofs.Front.{renewed, Renewed, front-long, front-part}
 use Rattle.outcome.proofs.Runs.{fits-free, unweighed-are, sky-is}
 use Rattle.single_step.specs.SingleStep.{toFit, step, actualResiduals}
-
-pub zip-at : (f : Float → Float → Float) (xs ys : List Float) (k : ℕ) → length ys ≡ length xs → k < length xs → f (at xs k) (at ys k) ≡ at (zipWith f xs ys) k
-unfolding zipWith
-zip-at f [] ys k e h = absurd (omega arith)
-zip-at f (x ∷ xs) [] k e h = absurd (omega arith)
-zip-at f (x ∷ xs) (y ∷ ys) zero e h = refl
-zip-at f (x ∷ xs) (y ∷ ys) (suc k) e h = zip-at f xs ys k (omega arith) (omega arith)
 
 -- ---- the step: the x numbers from x on came back as ys (u), the front of y numbers as zs (v), and the numbers from x on were copied to y
 
@@ -75,7 +69,7 @@ fitted-to l s w ys zs w′ f kept is r made e =
 
 -- what the solver requires, of a list v as long
 pub solver-ready : (l : RunInputs) (w v : List Float) → Fits l w → length v ≡ length w
-    → (0 < length (l .free)) × (length (l .free) ≤ 32) × (2 * countOf l + length (l .free) ≤ heightIn l)
+    → (0 < length (l .free)) × (length (l .free) ≤ maxTerms) × (2 * countOf l + length (l .free) ≤ heightIn l)
     × (8 * countOf l + length (l .free) * heightIn l ≤ length v) × (2 * countOf l ≤ 2 * countOf l) × (4 * countOf l + 2 * countOf l ≤ 8 * countOf l)
 solver-ready l w v f e =
     let r = fits-free l w f in

@@ -14,20 +14,17 @@ use Rattle.linalg.specs.Linalg.{Solved, leverageOf}
 use Rattle.solver.specs.declared.Fit.the-variants.{Done}
 use Rattle.solver.specs.declared.FitResult.{FitResult}
 use Rattle.solver.specs.Call.{Buffers, buffers}
-use Rattle.design.specs.Design.{RunInputs, runFrom, runInputs, sightsAt, product, extracted, weighedAt, scattered}
+use Rattle.design.specs.Design.{RunInputs, runFrom, sightsAt, product, extracted, weighedAt, scattered}
 use Rattle.design.specs.Counted.{Counted}
-use Rattle.design.proofs.Runs.{rows-are, free-room}
+use Rattle.design.proofs.Runs.{withTerms, rows-are, free-room}
 use Rattle.stats.specs.declared.Sky.{Sky}
 use Rattle.stats.specs.Stats.{skyFrom, variance, sigmaAt}
 use Rattle.outcome.specs.Outcome.{diagnosticFrom, diagnosticNumbers, answerOf, outcome}
-use Rattle.outcome.specs.Scratch.{countOf, heightIn, residualsIn, bIn, skyIn, columnsIn, solvedIn, Fits}
+use Rattle.outcome.specs.Scratch.{countOf, heightIn, residualsIn, bIn, skyIn, columnsIn, solvedIn}
 use Rattle.outcome.proofs.Front.{renewed, Renewed, front-long, front-again, front-count, front-rest, front-part, front-above}
 use Rattle.outcome.proofs.Laws.{InOrder, solved-in-order, finishes}
 use Rattle.outcome.proofs.Runs.{unweighed-are}
 use Rattle.single_step.specs.SingleStep.{toFit, step, change, newCoefficients, freeResiduals, actualResiduals, once, fittedRun}
-
-pub fits-front : (l : RunInputs) (w : List Float) (need : ℕ) → Counted l → 8 * countOf l + l .m * heightIn l ≤ need → need ≤ length w → Fits l (take need w)
-fits-front l w need c room fits = record { counted = c; room = rw (length-take-le need w fits) room }
 
 pub step-in-order : (l : RunInputs) (s : List Float) → InOrder (length (l .free)) (step (runFrom l) s .outcome)
 unfolding step
@@ -105,14 +102,8 @@ module _ {l : RunInputs} {need : ℕ} {w a v r : List Float} (t : Lent l need w 
 
 -- ---- a run whose number of terms is counted on the set
 
-abbrev pub counting : RunInputs → ℕ → RunInputs
-counting l k = runInputs k (l .names) (l .free) (l .dh) (l .dd) (l .pier) (l .sheets) (l .used) (l .settings)
-
-pub counted-as : (l : RunInputs) (k : ℕ) → k ≡ l .m → Counted l → Counted (counting l k)
-counted-as l k e c = rw e c
-
 sky-as : (l : RunInputs) (k : ℕ) (u : List Float) (sky : Sky) → k ≡ l .m
-    → sky ≡ skyFrom (runFrom l .stars) (length (l .free)) (actualResiduals (runFrom (counting l k)) u)
+    → sky ≡ skyFrom (runFrom l .stars) (length (l .free)) (actualResiduals (runFrom (withTerms l k)) u)
     → sky ≡ skyFrom (runFrom l .stars) (length (l .free)) (actualResiduals (runFrom l) u)
 sky-as l k u sky e q = rw e at q
 
@@ -124,7 +115,7 @@ pub run-fitted : (l : RunInputs) (s : List Float) (need : ℕ) (b : Buffers) (a 
     → Renewed (b .change) moved (l .m) → moved ≡ scattered (l .free) (at (o .x)) (replicate (length (take (l .m) (b .change))) #0)
     → Renewed (b .coefficients) set (l .m) → set ≡ zipWith (add binary64) s (take (l .m) (renewed (b .change) moved (l .m)))
     → sky ≡ skyFrom (runFrom l .stars) (length (l .free))
-    (actualResiduals (runFrom (counting l (length (take (l .m) (renewed (b .coefficients) set (l .m)))))) (take (l .m) (renewed (b .coefficients) set (l .m))))
+    (actualResiduals (runFrom (withTerms l (length (take (l .m) (renewed (b .coefficients) set (l .m)))))) (take (l .m) (renewed (b .coefficients) set (l .m))))
     → part r (2 * countOf l) (2 * countOf l)
     ≡ zipWith (sub binary64) (bIn l (take (8 * countOf l) (afterSky l need (b .scratch) a v)))
     (product (2 * countOf l) (length (l .free)) (at (o .x)) (extracted (l .free)

@@ -7,16 +7,13 @@ use lib.Ieee.{Float, add, sub, binary64}
 use Rattle.float.specs.Float.{#0}
 use Rattle.sequence.specs.Sequence.{at}
 use Rattle.linalg.specs.Linalg.{Solved, solved}
-use Rattle.solver.specs.declared.Fit.the-variants.{Refused}
 use Rattle.solver.specs.declared.IterReport.{IterReport}
 use Rattle.solver.specs.Call.{FitInputs, Buffers, sizesOf}
 use Rattle.validate.specs.Questions.{scratchNeeded, asked, noOptions}
-use Rattle.validate.specs.declared.Asked.{Asked}
-use Rattle.validate.specs.declared.Asked.the-variants.{Pass, No}
 use Rattle.design.specs.Design.{Run, runOf, rowsOf, heightOf, columnOf, skyOf, differences, skyDifferences, subtractAll, product, extracted, scattered, stacked}
-use Rattle.outcome.specs.Outcome.{Outcome, outcome, finished}
+use Rattle.outcome.specs.Outcome.{Outcome, decided, finished}
 
--- ---- single_step_fit, of a run and the coefficients s that it starts from
+-- ---- single_step_fit, of a run and the coefficients s that it starts from, one for each of its m terms
 
 -- the residuals that the free terms are fitted to
 unfoldable pub toFit : Run → List Float → List Float
@@ -26,7 +23,7 @@ toFit r s = subtractAll (length s) (at s) (skyOf r) (skyDifferences (r .stars))
 unfoldable pub step : Run → List Float → Solved
 step r s = solved (heightOf r) (rowsOf r) (length (r .free)) (stacked (heightOf r) (map (skyOf r) (r .free))) (toFit r s) (r .settings .«fit_tol»)
 
--- a free term's change is its place in x, a fixed term's is 0
+-- a free term's change is the number at its place in x, a fixed term's is 0
 abbrev pub changeFrom : Run → List Float → List Float
 changeFrom r x = scattered (r .free) (at x) (replicate (r .m) #0)
 
@@ -60,9 +57,5 @@ fittedRun r need s b =
 abbrev pub fitted : FitInputs → Buffers → Outcome
 fitted l b = fittedRun (runOf l) (scratchNeeded (length (l .coefficients)) (length (l .dh))) (l .coefficients) b
 
-abbrev pub decided : Asked → FitInputs → Buffers → Outcome
-decided Pass l b = fitted l b
-decided (No k) l b = outcome (Refused k) b
-
 unfoldable pub fitOutcome : FitInputs → Buffers → Outcome
-fitOutcome l b = decided (asked l noOptions (sizesOf b)) l b
+fitOutcome l b = decided (asked l noOptions (sizesOf b)) (fitted l b) b

@@ -27,7 +27,7 @@ use solver::Sizes;
 use stats::Sky;
 use validate::Asked;
 
-// The step: the residuals at 4·n, the free columns at 8·n, and the solution.
+// The step: the residuals at 4·n, the free columns at 8·n, and the solution. A column is weighed by nothing where k is 0.
 fn solve(
     names: &[u8],
     free: &[u16],
@@ -58,7 +58,7 @@ fn solve(
     linalg::solve_and_covariance(w, c, h, rows, free.len(), b, rows, s.fit_tol)
 }
 
-// A free term's change is its place in x, a fixed term's is 0.
+// A free term's change is the number at its place in x, a fixed term's is 0.
 fn changes(free: &[u16], x: &[f64; MAX_TERMS], change: &mut [f64])
     requires { ⌜ (length (now free) ≤ maxTerms) × Below (length (now change)) (now free) ⌝ }
     ensures { λ _. ⌜ now (change .exit) ≡ scattered (now (free .entry)) (at (now (x .entry))) (replicate (length (now (change .entry))) #0) ⌝ }

@@ -26,7 +26,7 @@ degrees n k = max (n - k) 1
 
 -- ---- on the sky
 
--- dx·dx + dd·dd of star i, where dx is the hour-angle residual times cos dec: of two numbers a star that are on the sky already
+-- dx·dx + dd·dd of star i, of the residuals on the sky, two a star: dx is the hour-angle residual times cos dec
 abbrev pub skySquare : List Float → ℕ → Float
 skySquare sky i =
     let dx = at sky (2 * i) in

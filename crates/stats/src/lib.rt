@@ -18,7 +18,7 @@ pub struct Sky {
     pub popn_sd: f64,
 }
 
-// The squares of the residuals r on the sky, two a star, as one sum in order; the sheets are those of n stars.
+// The residuals r, two a star, whose hour-angle rows are taken times cos dec here: their squares as one sum, in order. The sheets are those of n stars.
 pub fn sum_sq_sky(sheets: &[f64], n: usize, used: &[u16], r: &[f64]) -> f64
     requires { ⌜ (length (now sheets) ≡ sheetNumbers * n) × Below n (now used) × (length (now r) ≡ 2 * length (now used)) ⌝ }
     ensures { λ s. ⌜ s ≡ sumSqSky (sightsAt [] (now (sheets .entry)) (now (used .entry))) (now (r .entry)) ⌝ }
@@ -64,7 +64,8 @@ pub fn sky_of_sum(sum: f64, n: usize, n_free: usize) -> Sky
 
 // n less k, and at least 1.
 pub fn degrees(n: usize, k: usize) -> usize
-    ensures { λ r. ⌜ (r ≡ degreesOf n k) × (r ≤ n + 1) ⌝ }
+    ensures value { λ r. ⌜ r ≡ degreesOf n k ⌝ }
+    ensures bound { λ r. ⌜ r ≤ n + 1 ⌝ }
 {
     if n <= k {
         return 1;

@@ -11,7 +11,7 @@ use Rattle.limits.specs.Limits.{slotBytes}
 use Rattle.sequence.specs.Sequence.{every}
 use Rattle.equatorial.specs.declared.EquatorialTerm.the-variants.{IH, ID, CH, NP, MA, ME, TF, TX, TXN, DAF, FO, HCES, HCEC, DCES, DCEC}
 use Rattle.harmonic.specs.Table.{ascii}
-use Rattle.harmonic.specs.Harmonic.{digit, arrayOf, parseHarmonic}
+use Rattle.harmonic.specs.Harmonic.{isDigit, arrayOf, parseHarmonic}
 use Rattle.harmonic.specs.declared.Components.{Components}
 use Rattle.harmonic.specs.declared.HarmonicRead.{HarmonicRead}
 use Rattle.terms.specs.Questions.{ask, firstNo}
@@ -103,7 +103,7 @@ unfoldable pub digitsFrom : ℕ → List ℕ → Option ℕ
 digitsFrom v [] = some v
 digitsFrom v (c ∷ s) =
     let rest = digitsFrom (v * 10 + (c - code "0")) s in
-    cond (digit c) rest none
+    cond (isDigit c) rest none
 
 -- Rust's parse of an unsigned number: a + may stand in front, and there is at least one digit
 unfoldable pub unsigned : List ℕ → Option ℕ
@@ -112,14 +112,14 @@ unsigned (c ∷ []) = digitsFrom 0 (c ∷ [])
 unsigned (c ∷ d ∷ s) = cond (eqb c (code "+")) (digitsFrom 0 (d ∷ s)) (digitsFrom 0 (c ∷ d ∷ s))
 
 -- the decimal digits of a number below 1,000
-abbrev pub decimal : ℕ → List ℕ
-decimal v =
+abbrev pub shortDecimal : ℕ → List ℕ
+shortDecimal v =
     cond (ltb v 10) ((code "0" + v) ∷ [])
     (cond (ltb v 100) ((code "0" + v / 10) ∷ (code "0" + v % 10) ∷ []) ((code "0" + v / 100) ∷ (code "0" + v / 10 % 10) ∷ (code "0" + v % 10) ∷ []))
 
 abbrev pub numbered : Option ℕ → Reading
 numbered none = refused 9
-numbered (some v) = cond (leb 1 v && leb v 255) (accepted (TermKind.Equatorial (TXN v)) (ascii "TX" ++ decimal v) (arrayOf [])) (refused 9)
+numbered (some v) = cond (leb 1 v && leb v 255) (accepted (TermKind.Equatorial (TXN v)) (ascii "TX" ++ shortDecimal v) (arrayOf [])) (refused 9)
 
 -- ---- harmonics
 

@@ -9,7 +9,8 @@ ghost use Rattle.limits.specs.Limits.{slotBytes};
 ghost use Rattle.sequence.specs.Sequence.{every};
 ghost use Rattle.harmonic.specs.Table.{ascii, lookup};
 ghost use Rattle.terms.specs.declared.names.Known.{Known};
-ghost use Rattle.terms.specs.Names.{capital, padded, nameOf, answer, refused, fixedNames, find, digitsFrom, unsigned, decimal, readHarmonic, byKnown};
+ghost use Rattle.terms.specs.Names.{capital, padded, nameOf, answer, refused, fixedNames};
+ghost use Rattle.terms.specs.Names.{find, digitsFrom, unsigned, shortDecimal, readHarmonic, byKnown};
 ghost use Rattle.terms.specs.Inside.{Clean, keyOf, keyed, numberOf, numberedRead};
 use crate::Reading;
 use crate::Term;
@@ -209,7 +210,7 @@ fn read_unsigned(s: &[u8]) -> NumberRead
 // TX and the number's decimal digits.
 fn txn_name(v: usize) -> [u8; SLOT]
     requires { ⌜ v < 256 ⌝ }
-    ensures { λ r. ⌜ r ≡ padded (ascii "TX" ++ decimal v) ⌝ }
+    ensures { λ r. ⌜ r ≡ padded (ascii "TX" ++ shortDecimal v) ⌝ }
 {
     let mut out = [0u8; SLOT];
     out[0] = b'T';

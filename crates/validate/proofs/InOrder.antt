@@ -15,7 +15,7 @@ use Rattle.terms.proofs.Parts.{numbered, stops, goes-on, numbered-itself, went-
 use Rattle.solver.specs.declared.IterOptions.{IterOptions}
 use Rattle.solver.specs.declared.Sizes.{Sizes}
 use Rattle.solver.specs.Call.{FitInputs}
-use Rattle.validate.specs.Questions.{limits, counts, room, sizesAsked, valuesAsked, termsAsked, asked}
+use Rattle.validate.specs.Questions.{inLimits, counts, enoughRoom, sizesAsked, valuesAsked, termsAsked, asked}
 use Rattle.validate.specs.declared.Asked.{Asked}
 use Rattle.validate.specs.declared.Asked.the-variants.{Pass, No}
 use Rattle.validate.proofs.Laws.{limits-facts, counts-facts}
@@ -32,9 +32,9 @@ number (No k) = k
 -- lengths that pass: 16 name bytes for each term, and at most 32 flags
 pub sized : (m n names fixed dd pier sheets : ℕ) (s : Sizes) → noOf (sizesAsked m n names fixed dd pier sheets s) ≡ 0 → (names ≡ 16 * m) × (fixed ≤ 32)
 sized m n names fixed dd pier sheets s e =
-    let room-no : ℕ = cond (room s m n) 0 3 in
+    let room-no : ℕ = cond (enoughRoom s m n) 0 3 in
     let counts-no : ℕ = cond (counts names fixed dd pier sheets m n) room-no 2 in
-    let one = went-on (limits m n) counts-no 0 e in
+    let one = went-on (inLimits m n) counts-no 0 e in
     let two = went-on (counts names fixed dd pier sheets m n) room-no 1 (one .1) in
     let few = limits-facts m n (one .0) .0 in
     let c = counts-facts names fixed dd pier sheets m n (two .0) in

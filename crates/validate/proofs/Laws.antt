@@ -7,12 +7,12 @@ use mathlib.Core.Bool.{true, false, _&&_}
 use borrow.Author.Tests.{leb-true, eqb-true, lt-ltb, le-ltb}
 use lib.Dec.{leb, ltb, eqb}
 use Rattle.sequence.proofs.Tests.{left-of, right-of}
-use Rattle.validate.specs.Questions.{limits, counts}
+use Rattle.validate.specs.Questions.{inLimits, counts}
 
 -- ---- questions 1 to 3
 
-pub limits-facts : (m n : ℕ) → limits m n ≡ true → (m ≤ 32) × (n ≤ 1024)
-unfolding limits
+pub limits-facts : (m n : ℕ) → inLimits m n ≡ true → (m ≤ 32) × (n ≤ 1024)
+unfolding inLimits
 limits-facts m n e = (leb-true m 32 (left-of (leb m 32) (leb n 1024) e), leb-true n 1024 (right-of (leb m 32) (leb n 1024) e))
 
 pub record CountsMatch (names fixed dd pier sheets m n : ℕ) : Type 0 where

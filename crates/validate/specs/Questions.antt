@@ -10,7 +10,7 @@ use Rattle.float.specs.Float.{#0, isFinite}
 use Rattle.sequence.specs.Sequence.{every}
 use Rattle.terms.specs.Slots.{namesRefusal}
 use Rattle.terms.specs.Questions.{Question, ask, firstNo}
-use Rattle.design.specs.Design.{collectIndices, listed}
+use Rattle.design.specs.Design.{collectIndices, runInputsOf}
 use Rattle.design.specs.Counted.{Counted}
 use Rattle.solver.specs.declared.IterOptions.{IterOptions}
 use Rattle.solver.specs.declared.Settings.{Settings}
@@ -22,8 +22,8 @@ use Rattle.validate.specs.declared.Asked.the-variants.{Pass, No}
 -- ---- the questions one by one; m counts the coefficients lent, n the hour-angle differences
 
 -- 1: at most 32 terms and 1,024 stars
-unfoldable pub limits : ℕ → ℕ → Bool
-limits m n = leb m maxTerms && leb n maxStars
+unfoldable pub inLimits : ℕ → ℕ → Bool
+inLimits m n = leb m maxTerms && leb n maxStars
 
 -- 2: exactly as many name bytes, flags, declination differences, pier codes and sheet numbers as belong to them
 unfoldable pub counts : ℕ → ℕ → ℕ → ℕ → ℕ → ℕ → ℕ → Bool
@@ -34,21 +34,20 @@ unfoldable pub scratchNeeded : ℕ → ℕ → ℕ
 scratchNeeded m n = (4 * n + 3 * m) * m + 8 * n + 8 * m
 
 -- 3: room in the buffers
-unfoldable pub room : Sizes → ℕ → ℕ → Bool
-room s m n =
+unfoldable pub enoughRoom : Sizes → ℕ → ℕ → Bool
+enoughRoom s m n =
     leb m (s .coefficients) && leb m (s .change) && leb m (s .sigma) && leb (3 * n) (s .diagnostics) && leb (scratchNeeded m n) (s .scratch)
 
 -- 4: every lent float is finite
 unfoldable pub finiteSettings : Settings → Bool
-finiteSettings c = isFinite (c .«sin_lat») && isFinite (c .«cos_lat») && isFinite (c .«fit_tol»)
+finiteSettings c = every isFinite (c .«sin_lat» ∷ c .«cos_lat» ∷ c .«fit_tol» ∷ [])
 
 unfoldable pub finiteInput : FitInputs → Bool
 finiteInput l =
     every isFinite (l .coefficients) && every isFinite (l .dh) && every isFinite (l .dd) && every isFinite (l .sheets) && finiteSettings (l .settings)
 
 unfoldable pub finiteOptions : IterOptions → Bool
-finiteOptions o =
-    isFinite (o .«tol_rad») && isFinite (o .«initial_lambda») && isFinite (o .«lambda_up») && isFinite (o .«lambda_down») && isFinite (o .«huber_k»)
+finiteOptions o = every isFinite (o .«tol_rad» ∷ o .«initial_lambda» ∷ o .«lambda_up» ∷ o .«lambda_down» ∷ o .«huber_k» ∷ [])
 
 -- 5: each pier code 0 to 2, each fixed flag 0 or 1
 unfoldable pub codesKnown : List ℕ → List ℕ → Bool
@@ -62,7 +61,7 @@ freeCount fixed = length (collectIndices fixed)
 
 -- 1 to 3 ask about lengths alone: m, n, then those of names, flags, declination differences, pier codes and sheets, and the buffers'
 abbrev pub sizesAsked : ℕ → ℕ → ℕ → ℕ → ℕ → ℕ → ℕ → Sizes → List Question
-sizesAsked m n names fixed dd pier sheets s = ask (limits m n) 1 ∷ ask (counts names fixed dd pier sheets m n) 2 ∷ ask (room s m n) 3 ∷ []
+sizesAsked m n names fixed dd pier sheets s = ask (inLimits m n) 1 ∷ ask (counts names fixed dd pier sheets m n) 2 ∷ ask (enoughRoom s m n) 3 ∷ []
 
 -- 4 to 6 about values
 abbrev pub valuesAsked : FitInputs → IterOptions → List Question
@@ -100,7 +99,7 @@ noOptions =
 -- ---- what a fit may count on once its questions are passed
 
 pub record Ready (l : FitInputs) (s : Sizes) : Type 0 where
-  pub counted : Counted (listed l)
+  pub counted : Counted (runInputsOf l)
   pub fixed-count : length (l .fixed) ≡ length (l .coefficients)
   pub coefficients-room : length (l .coefficients) ≤ s .coefficients
   pub change-room : length (l .coefficients) ≤ s .change

@@ -11,7 +11,7 @@ ghost use Rattle.sequence.specs.Sequence.{every};
 ghost use Rattle.terms.specs.Questions.{noOf};
 ghost use Rattle.solver.specs.Call.{FitInputs, inputs};
 ghost use Rattle.design.specs.Design.{upTo, collectIndices};
-ghost use Rattle.validate.specs.Questions.{limits, counts, scratchNeeded, room, finiteSettings, finiteInput, finiteOptions, codesKnown};
+ghost use Rattle.validate.specs.Questions.{inLimits, counts, scratchNeeded, enoughRoom, finiteSettings, finiteInput, finiteOptions, codesKnown};
 ghost use Rattle.validate.specs.Questions.{freeCount, sizesAsked, valuesAsked, termsAsked, asked, noOptions};
 use limits::MAX_STARS;
 use limits::MAX_TERMS;
@@ -29,7 +29,7 @@ pub enum Asked {
 
 // Question 1.
 fn within_limits(m: usize, n: usize) -> bool
-    ensures { λ r. ⌜ r ≡ limits m n ⌝ }
+    ensures { λ r. ⌜ r ≡ inLimits m n ⌝ }
 {
     if m > MAX_TERMS {
         return false;
@@ -76,7 +76,7 @@ pub fn scratch_needed(m: usize, n: usize) -> usize
 // Question 3.
 fn has_room(s: Sizes, m: usize, n: usize) -> bool
     requires { ⌜ (m ≤ maxTerms) × (n ≤ maxStars) ⌝ }
-    ensures { λ r. ⌜ r ≡ room s m n ⌝ }
+    ensures { λ r. ⌜ r ≡ enoughRoom s m n ⌝ }
 {
     let need = scratch_needed(m, n);
     if s.coefficients < m {
@@ -98,13 +98,8 @@ fn has_room(s: Sizes, m: usize, n: usize) -> bool
 fn finite_settings(s: Settings) -> bool
     ensures { λ r. ⌜ r ≡ finiteSettings s ⌝ }
 {
-    if !float::is_finite(s.sin_lat) {
-        return false;
-    }
-    if !float::is_finite(s.cos_lat) {
-        return false;
-    }
-    float::is_finite(s.fit_tol)
+    let numbers = [s.sin_lat, s.cos_lat, s.fit_tol];
+    sequence::all_finite(&numbers[..])
 }
 
 // Question 4 of the slices and the settings.
@@ -141,19 +136,14 @@ fn finite_input(
 fn finite_options(o: IterOptions) -> bool
     ensures { λ r. ⌜ r ≡ finiteOptions o ⌝ }
 {
-    if !float::is_finite(o.tol_rad) {
-        return false;
-    }
-    if !float::is_finite(o.initial_lambda) {
-        return false;
-    }
-    if !float::is_finite(o.lambda_up) {
-        return false;
-    }
-    if !float::is_finite(o.lambda_down) {
-        return false;
-    }
-    float::is_finite(o.huber_k)
+    let numbers = [
+        o.tol_rad,
+        o.initial_lambda,
+        o.lambda_up,
+        o.lambda_down,
+        o.huber_k,
+    ];
+    sequence::all_finite(&numbers[..])
 }
 
 // Whether every code of s is below k.

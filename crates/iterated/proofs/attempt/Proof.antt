@@ -4,6 +4,7 @@ use native.Mathlib.Omega.{arith}
 use mathlib.Core.Path.{_≡_, sym}
 use lib.ListN.{length, take}
 use lib.Seq.{length-take-le}
+use Rattle.limits.specs.Limits.{maxTerms}
 use Rattle.design.proofs.Runs.{named, read}
 use Rattle.outcome.proofs.Front.{front-size}
 use Rattle.iterated.proofs.Laws.{array-long, set-front, left-front, accepted, rejected}
@@ -22,7 +23,7 @@ long c = set-front (start c .args .free .now) (c .propose .result .solved .x) (s
 
 -- the free terms' steps
 few : (c : tie.After-propose) → length (start c .args .free .now) ≤ length (c .propose .result .solved .x)
-few c = omega (arith, array-long (c .propose .result .solved .x) 32 (c .propose .ok .1 .1 .1 .1 .0 .1 .1 .0 .1 .0 .1), start c .pre .0 .counted)
+few c = omega (arith, array-long (c .propose .result .solved .x) maxTerms (c .propose .ok .1 .1 .1 .1 .0 .1 .1 .0 .1 .0 .1), start c .pre .0 .counted)
 
 -- scratch has room for the residuals
 room : (c : tie.After-propose) → 4 * length (start c .args .used .now) ≤ length (c .propose .last .1 .1 .1 .1 .1 .1 .1 .1 .1 .1 .1 .0)

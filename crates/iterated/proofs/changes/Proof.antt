@@ -1,23 +1,14 @@
 -- `iterated::changes` meets its contract. The invariant: the first j places are filled. Assumes nothing.
-use Prim.Native.Nat.{ℕ, zero, suc, _-_, _≤_, _<_}
+use Prim.Native.Nat.{_-_, _≤_}
 use native.Mathlib.Numerals.{add-one}
 use native.Mathlib.Omega.{arith}
-use mathlib.Core.Path.{_≡_, refl, sym, _∙_}
-use mathlib.Core.List.{List, [], _∷_, zipWith}
-use lib.ListN.{length}
-use lib.Ieee.{Float, nan, binary64, sub}
-use Rattle.sequence.specs.Sequence.{at}
-use Rattle.sequence.proofs.Parts.{length-zip}
+use mathlib.Core.Path.{sym, _∙_}
+use mathlib.Core.List.{zipWith}
+use lib.Ieee.{nan, binary64, sub}
+use Rattle.sequence.proofs.Parts.{length-zip, zip-at}
 use Rattle.sequence.proofs.Partway as partway
 use Rattle.iterated.proofs.changes.Statement.{statement}
 use Rattle.iterated.proofs.changes.Tie as tie
-
-change-at : (xs ys : List Float) (k : ℕ) → length ys ≡ length xs → k < length xs → sub binary64 (at xs k) (at ys k) ≡ at (zipWith (sub binary64) xs ys) k
-unfolding zipWith
-change-at [] ys k e h = absurd (omega arith)
-change-at (x ∷ xs) [] k e h = absurd (omega arith)
-change-at (x ∷ xs) (y ∷ ys) zero e h = refl
-change-at (x ∷ xs) (y ∷ ys) (suc k) e h = change-at xs ys k (omega arith) (omega arith)
 
 abbrev Inv-loop : tie.InvT-loop
 Inv-loop set start change₀ j₀ j-end change j = (j ≤ j-end) × partway.Partway change₀ (zipWith (sub binary64) set start) j change
@@ -37,7 +28,7 @@ loop-again c =
       omega arith,
       rw (add-one (u .j))
           (partway.step _ _ (u .j) (u .change) _ nan (omega arith) (u .inv .1)
-          (change-at (s .args .set .now) (s .args .start .now) (u .j) (s .pre .0) (omega arith))),
+          (zip-at (sub binary64) (s .args .set .now) (s .args .start .now) (u .j) (s .pre .0) (omega arith))),
     )
 
 returns : tie.Need-returns Inv-loop μ-loop

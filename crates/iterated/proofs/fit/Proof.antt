@@ -3,10 +3,11 @@ use native.Mathlib.Omega.{arith}
 use mathlib.Core.Path.{_≡_, refl}
 use lib.ListN.{length, take}
 use Rattle.solver.specs.Call.{FitInputs, inputs, Buffers, buffers}
-use Rattle.design.specs.Design.{RunInputs, runInputs, listed}
+use Rattle.design.specs.Design.{RunInputs, runInputs, runInputsOf}
 use Rattle.outcome.proofs.Front.{front-size}
 use Rattle.outcome.proofs.Runs.{listed-is}
-use Rattle.iterated.proofs.Outcome.{call-ready, call-fitted}
+use Rattle.outcome.proofs.Call.{run-ready, run-fit}
+use Rattle.iterated.specs.Iterated.{fittedRun}
 use Rattle.iterated.proofs.fit.Statement.{statement}
 use Rattle.iterated.proofs.fit.Tie as tie
 
@@ -36,7 +37,7 @@ run c =
     runInputs (length (a .coefficients .now)) (a .names .now) (take (x .result) (x .last .1 .0)) (a .dh .now) (a .dd .now) (a .pier .now) (a .sheets .now)
     (take (length (a .dh .now)) (c .all-indices .last .1 .0)) (a .s)
 
-listed-run : (c : tie.After-all-indices) → run c ≡ listed (call (start (needed (terms c))))
+listed-run : (c : tie.After-all-indices) → run c ≡ runInputsOf (call (start (needed (terms c))))
 listed-run c =
     let e = terms c .collect-indices .ensures in
     listed-is (call (start (needed (terms c)))) _ _ _ _ _ (e .0) (e .1) (c .all-indices .ensures)
@@ -55,14 +56,15 @@ fit-run-requires : tie.Need-fit-run-requires
 fit-run-requires c κs =
     let x = c .before .before .before .before .before .before .before .before in
     let n = needed (terms x) in
-    call-ready (call (start n)) (lent (start n)) (run x) _ (listed-run x) (n .scratch-needed .ensures) (start n .pre)
+    run-ready (call (start n)) (run x) _ (listed-run x) (n .scratch-needed .ensures) (lent (start n)) (start n .pre)
 
 returns : tie.Need-returns
 returns c =
     let y = c .before .before .before .before .before .before .before .before .before .before in
     let x = y .before .before .before .before .before .before .before .before .before in
     let n = needed (terms x) in
-    call-fitted (call (start n)) _ (run x) _ (listed-run x) (n .scratch-needed .ensures) _ _ (y .fit-run .ensures)
+    run-fit (call (start n)) (run x) _ (listed-run x) (n .scratch-needed .ensures)
+    (λ k m. fittedRun k m (start n .args .coefficients .now) (start n .args .options) (lent (start n))) _ (y .fit-run .ensures)
 
 pub fit-spec : {M : Type 1} → statement M
 fit-spec =

@@ -8,8 +8,9 @@ use lib.Ieee.{Float}
 use Rattle.design.specs.Design.{RunInputs, runInputs}
 use Rattle.outcome.proofs.Front.{front-size, renewed, Renewed, front-long, front-fits, front-count}
 use Rattle.outcome.proofs.Laws.{finish-ready}
+use Rattle.outcome.proofs.Runs.{fits-front}
 use Rattle.iterated.proofs.Run.{Written, out-long, scratch-fits, scratch-long, Searched, searched, solved-last, last-in-order}
-use Rattle.iterated.proofs.Run.{run-ready, left-again, run-fitted}
+use Rattle.iterated.proofs.Run.{left-again, run-fitted}
 use Rattle.iterated.proofs.fit_run.Statement.{statement}
 use Rattle.iterated.proofs.fit_run.Tie as tie
 
@@ -93,13 +94,13 @@ run-lm-loop-requires : tie.Need-run-lm-loop-requires
 run-lm-loop-requires c κs =
     let x = c .before .before .before .before in
     let s = start x in
-    run-ready (run s) _ (s .args .need) (s .args .scratch .now) (front-count (wrote-start x)) (s .pre .0) (s .pre .1) (s .pre .2)
+    fits-front (run s) _ (s .args .need) (s .args .scratch .now) (front-count (wrote-start x)) (s .pre .0) (s .pre .1) (s .pre .2)
 
 apply-final-step-requires : tie.Need-apply-final-step-requires
 apply-final-step-requires c κs =
     let x = c .before .before .before .before .before .before in
     let s = start (begun x) in (
-      run-ready (run s) _ (s .args .need) _ (front-count (wrote-set x)) (s .pre .0) (s .pre .1) (front-fits (wrote-scratch x)),
+      fits-front (run s) _ (s .args .need) _ (front-count (wrote-set x)) (s .pre .0) (s .pre .1) (front-fits (wrote-scratch x)),
       left-again (run s) _ _ (s .args .need) _ _ _ _ (wrote-set x) (wrote-scratch x) (x .run-lm-loop .ensures .1),
     )
 
@@ -114,7 +115,7 @@ finish-requires : tie.Need-finish-requires
 finish-requires c κs =
     let x = tried (changed (c .before .before .before)) in
     let s = start (begun (looped x)) in
-    let f = run-ready (run s) _ (s .args .need) _ refl (s .pre .0) (s .pre .1) (scratch-fits (wrote-all x)) in
+    let f = fits-front (run s) _ (s .args .need) _ refl (s .pre .0) (s .pre .1) (scratch-fits (wrote-all x)) in
     finish-ready (run s) _ (s .args .sigma .now) (s .args .diagnostics .now) (x .apply-final-step .result .solved) _ f
     (solved-last (wrote-all x) (came x)) (last-in-order (run s) (s .args .options) _ _) (s .pre .5) (s .pre .6)
 

@@ -51,10 +51,11 @@ returns-2 c =
     let below = room start .0 in
     let fits : a .q * a .h + a .h ≤ length (a .w .now) = omega (arith, room start) in
     let first = on .turn-on .ensures .0 in
+    let sums = on .turn-on .ensures .1 in
     let second = turned .turn2 .ensures in
     let t = tangent .tangent .ensures in (
       λ b. turned-pair _ _ _ _ _ _ _ _ _ _ first second below fits (own .2) _ (own .4) (own .5) t (cosine .cosine .ensures) b,
-      λ l. turned-sums _ _ _ _ _ _ _ _ _ _ first second below fits (own .2) _ (on .turn-on .ensures .1),
+      λ l. turned-sums _ _ _ _ _ _ _ _ _ _ first second below fits (own .2) _ sums,
     )
 
 pub turn-pair-spec : {M : Type 1} → statement M

@@ -56,9 +56,11 @@ module _ (t : ℕ) where
 
   returns-2 : lts.Need-returns-2 (digit-of.Asked, digit-of.Learnt, put-byte.Asked, put-byte.Learnt, below t, put-decimal.Post) (given t) put-decimal.Post
   returns-2 c =
-      let v = c .before .before .before .before .before .before .before .before .before .before .before .args .v in
-      let last = c .before .before .before .before .before .before .before .before .before .digit-of .ensures in
-      rw (decimal-large v (c .before .before .before .before .before .before .before .before .if1 .left), ← last) (wrote-then (c .before .before .before .before .before .before .put-decimal .ensures) (c .before .before .put-byte2 .ensures))
+      let tenth = c .before .before .before .before .before .before in
+      let test = tenth .before .before in
+      let last = test .before in
+      rw (decimal-large (last .before .before .args .v) (test .if1 .left), ← last .digit-of .ensures)
+      (wrote-then (tenth .put-decimal .ensures) (c .before .before .put-byte2 .ensures))
 
 pub +put-decimal-spec : {M : Type 1} → statement M
 +put-decimal-spec =

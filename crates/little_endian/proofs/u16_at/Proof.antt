@@ -11,7 +11,9 @@ returns : tie.Need-returns
 returns c =
     let s = c .before .before .before .before .before in
     let w = c .before .before in
-    (halves _ (s .args .i) 1 (w .wide .result) (c .wide2 .result) (omega arith) (w .wide .ensures .0 ∙ sym (one _ (s .args .i) (omega arith))) (c .wide2 .ensures .0 ∙ sym (one _ (s .args .i + 1) (omega arith))), omega arith)
+    let low = w .wide .ensures .0 ∙ sym (one (s .args .s .now) (s .args .i) (omega arith)) in
+    let high = c .wide2 .ensures .0 ∙ sym (one (s .args .s .now) (s .args .i + 1) (omega arith)) in
+    (halves _ (s .args .i) 1 (w .wide .result) (c .wide2 .result) (omega arith) low high, omega arith)
 
 pub u16-at-spec : {M : Type 1} → statement M
 u16-at-spec =

@@ -8,7 +8,9 @@ use Rattle.little_endian.proofs.u32_at.Tie as tie
 returns : tie.Need-returns
 returns c =
     let s = c .before .before .before in
-    (halves _ (s .args .i) 2 (c .before .u16-at .result) (c .u16-at2 .result) (omega arith) (c .before .u16-at .ensures .0) (c .u16-at2 .ensures .0), omega arith)
+    let low = c .before .u16-at .ensures .0 in
+    let high = c .u16-at2 .ensures .0 in
+    (halves _ (s .args .i) 2 (c .before .u16-at .result) (c .u16-at2 .result) (omega arith) low high, omega arith)
 
 pub u32-at-spec : {M : Type 1} → statement M
 u32-at-spec =

@@ -8,7 +8,9 @@ use Rattle.little_endian.proofs.u64_at.Tie as tie
 returns : tie.Need-returns
 returns c =
     let s = c .before .before .before in
-    halves _ (s .args .i) 4 (c .before .u32-at .result) (c .u32-at2 .result) (omega arith) (c .before .u32-at .ensures .0) (c .u32-at2 .ensures .0)
+    let low = c .before .u32-at .ensures .0 in
+    let high = c .u32-at2 .ensures .0 in
+    halves _ (s .args .i) 4 (c .before .u32-at .result) (c .u32-at2 .result) (omega arith) low high
 
 pub u64-at-spec : {M : Type 1} → statement M
 u64-at-spec =

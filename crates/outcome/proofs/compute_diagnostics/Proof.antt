@@ -5,11 +5,12 @@ use mathlib.Core.Path.{_≡_, refl, _∙_}
 use mathlib.Core.List.{List, _++_}
 use lib.ListN.{length, drop, length-set}
 use lib.Ieee.{Float}
+use Rattle.sequence.proofs.Concat.{over-none, over-end}
 use Rattle.solver.specs.declared.ObsDiagnostic.{ObsDiagnostic}
 use Rattle.linalg.specs.Linalg.{leverageOf}
 use Rattle.stats.specs.Stats.{sqrt, variance, deviation}
 use Rattle.outcome.specs.Outcome.{diagnosticFrom, diagnosticNumbers}
-use Rattle.outcome.proofs.Diagnostics.{diagnosticNumbers-none, diagnosticNumbers-step, diagnosticNumbers-end}
+use Rattle.outcome.proofs.Diagnostics.{diagnosticNumbers-next}
 use Rattle.outcome.proofs.compute_diagnostics.Statement.{statement}
 use Rattle.outcome.proofs.compute_diagnostics.Tie as tie
 
@@ -29,7 +30,7 @@ unfolding deviation variance
 deviates r k rank v s e q = rw (q, e)
 
 loop-holds : tie.Need-loop-holds Inv-loop μ-loop
-loop-holds c = (omega arith, refl, deviates _ _ _ _ _ (c .before .variance .ensures) (c .sqrt .ensures), diagnosticNumbers-none _ _)
+loop-holds c = (omega arith, refl, deviates _ _ _ _ _ (c .before .variance .ensures) (c .sqrt .ensures), over-none _ 3 (λ i. refl) _)
 
 leverage-requires : tie.Need-leverage-requires Inv-loop μ-loop
 leverage-requires c κs = (c .before .before .before .before .before .before .before .before .pre .0, omega arith)
@@ -49,15 +50,14 @@ loop-again c =
       omega arith,
       simp length-set (u .inv .1),
       u .inv .2,
-      diagnosticNumbers-step f (u .i) (a .out .now) (u .out) (c .diagnostic .result) (omega (arith, s .pre .4)) (u .inv .3) is,
+      diagnosticNumbers-next f (u .i) (a .out .now) (u .out) (c .diagnostic .result) (omega (arith, s .pre .4)) (u .inv .3) is,
     )
 
 returns : tie.Need-returns Inv-loop μ-loop
 returns c =
     let u = c .before .loop in
     let a = c .before .before .before .before .before .before .before .before .args in
-    let f = numbers (a .u .now) (a .h) (a .o .now) (a .inv-s .now) (a .r .now) (a .n) (a .rank) in
-    diagnosticNumbers-end f (u .i) (a .n) (a .out .now) (u .out) (omega arith) (u .inv .3)
+    over-end _ 3 (λ i. refl) (u .i) (a .n) (a .out .now) (u .out) (omega arith) (omega arith) (u .inv .3)
 
 pub compute-diagnostics-spec : {M : Type 1} → statement M
 compute-diagnostics-spec =

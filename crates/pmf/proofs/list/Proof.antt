@@ -15,18 +15,23 @@ returns-2 : tie.Need-returns-2
 unfolding listedIn listed
 returns-2 c =
     let f = c .before .before .before .before .before in
-    rw (le-leb listingRoom _ (f .before .if1 .left), ← f .file-refusal .ensures .0, ne-eqb _ 0 (c .before .before .before .before .if2 .taken)) (into (c .before .before .put-refusal .ensures))
+    let answer = f .file-refusal .ensures .0 in
+    rw (le-leb listingRoom _ (f .before .if1 .left), ← answer, ne-eqb _ 0 (c .before .before .before .before .if2 .taken))
+    (into (c .before .before .put-refusal .ensures))
 
 list-file-requires : tie.Need-list-file-requires
 list-file-requires c κs =
     let f = c .before .before in
-    (f .before .if1 .left, f .file-refusal .ensures .1 (c .before .if2 .left))
+    let formed = f .file-refusal .ensures .1 in
+    (f .before .if1 .left, formed (c .before .if2 .left))
 
 returns-3 : tie.Need-returns-3
 unfolding listedIn listed
 returns-3 c =
     let f = c .before .before .before .before .before in
-    rw (le-leb listingRoom _ (f .before .if1 .left), ← f .file-refusal .ensures .0, eq-eqb _ 0 (c .before .before .before .before .if2 .left)) (into (c .before .before .list-file .ensures))
+    let answer = f .file-refusal .ensures .0 in
+    rw (le-leb listingRoom _ (f .before .if1 .left), ← answer, eq-eqb _ 0 (c .before .before .before .before .if2 .left))
+    (into (c .before .before .list-file .ensures))
 
 pub list-spec : {M : Type 1} → statement M
 list-spec =

@@ -7,7 +7,10 @@ use Rattle.replay_solves.proofs.read_matrix.Statement.{statement}
 use Rattle.replay_solves.proofs.read_matrix.Tie as tie
 
 read-columns-requires : tie.Need-read-columns-requires
-read-columns-requires c κs = let a = c .before .before in (omega arith, simp (length-take, length-drop) (omega (arith, fits (a .args .head .m) (a .args .head .rows) (a .pre .few-columns) (a .pre .few-rows))))
+read-columns-requires c κs =
+    let a = c .before .before in
+    let room = fits (a .args .head .m) (a .args .head .rows) (a .pre .few-columns) (a .pre .few-rows) in
+    (omega arith, simp (length-take, length-drop) (omega (arith, room)))
 
 returns : tie.Need-returns
 returns c = search needs

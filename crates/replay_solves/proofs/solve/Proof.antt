@@ -15,9 +15,10 @@ solve-damped-requires c κs =
 
 hold-solve-requires : tie.Need-hold-solve-requires
 hold-solve-requires c κs =
-    let a = c .before .before .before .before .before .before .before .before .before .before .before .before .before .before in (
+    let a = c .before .before .before .before .before .before .before .before .before .before .before .before .before .before in
+    let solution = c .before .before .before .solve-damped .ensures .0 in (
       record { few-rows = a .pre .few-rows; some-columns = a .pre .some-columns; few-columns = a .pre .few-columns; room = omega (arith, a .pre) },
-      subst (λ (s : Solved). Ordered (a .args .head .m) (s .outcome .order)) (sym (c .before .before .before .solve-damped .ensures .0)) (damped-ordered _ _ _ _ _ _ _),
+      subst (λ (s : Solved). Ordered (a .args .head .m) (s .outcome .order)) (sym solution) (damped-ordered _ _ _ _ _ _ _),
     )
 
 returns : tie.Need-returns

@@ -5,9 +5,8 @@ use native.Mathlib.Omega.{arith}
 use mathlib.Core.Path.{sym, _∙_}
 use mathlib.Core.List.{zipWith}
 use lib.Ieee.{nan, add, binary64}
-use Rattle.sequence.proofs.Parts.{length-zip}
+use Rattle.sequence.proofs.Parts.{length-zip, zip-at}
 use Rattle.sequence.proofs.Partway.{Partway, start, step, end}
-use Rattle.single_step.proofs.Laws.{zip-at}
 use Rattle.single_step.proofs.changed.Statement.{statement}
 use Rattle.single_step.proofs.changed.Tie as tie
 

@@ -2,11 +2,12 @@
 use native.Mathlib.Omega.{arith}
 use mathlib.Core.Path.{_≡_, refl}
 use lib.ListN.{length, take}
-use Rattle.solver.specs.Call.{FitInputs, inputs, buffers}
-use Rattle.design.specs.Design.{RunInputs, runInputs, listed}
+use Rattle.solver.specs.Call.{FitInputs, inputs, Buffers, buffers}
+use Rattle.design.specs.Design.{RunInputs, runInputs, runInputsOf}
 use Rattle.outcome.proofs.Front.{front-size}
 use Rattle.outcome.proofs.Runs.{listed-is}
-use Rattle.single_step.proofs.Outcome.{run-ready, run-is}
+use Rattle.outcome.proofs.Call.{run-ready, run-fit}
+use Rattle.single_step.specs.SingleStep.{fittedRun}
 use Rattle.single_step.proofs.fit.Statement.{statement}
 use Rattle.single_step.proofs.fit.Tie as tie
 
@@ -25,6 +26,9 @@ call s =
     let a = s .args in
     inputs (a .names .now) (a .fixed .now) (a .coefficients .now) (a .dh .now) (a .dd .now) (a .pier .now) (a .sheets .now) (a .s)
 
+abbrev lent : tie.Start → Buffers
+lent s = let a = s .args in buffers (a .out .now) (a .change .now) (a .sigma .now) (a .diagnostics .now) (a .scratch .now)
+
 -- the run that is handed on is the call's
 abbrev run : tie.After-all-indices → RunInputs
 run c =
@@ -33,7 +37,7 @@ run c =
     runInputs (length (a .coefficients .now)) (a .names .now) (take (x .result) (x .last .1 .0)) (a .dh .now) (a .dd .now) (a .pier .now) (a .sheets .now)
     (take (length (a .dh .now)) (c .all-indices .last .1 .0)) (a .s)
 
-listed-run : (c : tie.After-all-indices) → run c ≡ listed (call (start (needed (terms c))))
+listed-run : (c : tie.After-all-indices) → run c ≡ runInputsOf (call (start (needed (terms c))))
 listed-run c =
     let e = terms c .collect-indices .ensures in
     listed-is (call (start (needed (terms c)))) _ _ _ _ _ (e .0) (e .1) (c .all-indices .ensures)
@@ -52,16 +56,15 @@ fit-run-requires : tie.Need-fit-run-requires
 fit-run-requires c κs =
     let x = c .before .before .before .before .before .before .before .before in
     let n = needed (terms x) in
-    let a = start n .args in
-    run-ready (call (start n)) (buffers (a .out .now) (a .change .now) (a .sigma .now) (a .diagnostics .now) (a .scratch .now)) (run x) _ (listed-run x)
-    (n .scratch-needed .ensures) (start n .pre)
+    run-ready (call (start n)) (run x) _ (listed-run x) (n .scratch-needed .ensures) (lent (start n)) (start n .pre)
 
 returns : tie.Need-returns
 returns c =
     let y = c .before .before .before .before .before .before .before .before .before .before in
     let x = y .before .before .before .before .before .before .before .before .before in
     let n = needed (terms x) in
-    run-is (call (start n)) _ (run x) _ (listed-run x) (n .scratch-needed .ensures) _ (y .fit-run .ensures)
+    run-fit (call (start n)) (run x) _ (listed-run x) (n .scratch-needed .ensures)
+    (λ k m. fittedRun k m (start n .args .coefficients .now) (lent (start n))) _ (y .fit-run .ensures)
 
 pub fit-spec : {M : Type 1} → statement M
 fit-spec =

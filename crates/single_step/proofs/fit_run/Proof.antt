@@ -1,18 +1,19 @@
 -- `single_step::fit_run` meets its contract. Assumes nothing.
 use Prim.Native.Nat.{_*_, _≤_}
 use native.Mathlib.Omega.{arith}
-use mathlib.Core.Path.{sym, _∙_}
+use mathlib.Core.Path.{refl, sym, _∙_}
 use mathlib.Core.List.{List}
 use lib.ListN.{length}
 use lib.Ieee.{Float}
 use lib.Seq.{length-take-le}
 use Rattle.solver.specs.Call.{buffers}
 use Rattle.design.specs.Design.{RunInputs, runInputs}
-use Rattle.design.proofs.Runs.{seen, named}
+use Rattle.design.proofs.Runs.{counted-as, seen, named}
 use Rattle.outcome.specs.Scratch.{countOf}
 use Rattle.outcome.proofs.Front.{front-size, renewed, Renewed, front-long, front-fits, front-count}
 use Rattle.outcome.proofs.Laws.{finish-ready}
-use Rattle.single_step.proofs.Run.{fits-front, step-in-order, afterSky, Lent, lent-long, lent-fits, step-kept, counted-as, run-fitted}
+use Rattle.outcome.proofs.Runs.{fits-front}
+use Rattle.single_step.proofs.Run.{step-in-order, afterSky, Lent, lent-long, lent-fits, step-kept, run-fitted}
 use Rattle.single_step.proofs.fit_run.Statement.{statement}
 use Rattle.single_step.proofs.fit_run.Tie as tie
 
@@ -101,7 +102,7 @@ wrote-all c =
 solve-requires : tie.Need-solve-requires
 solve-requires c κs =
     let s = c .before .before .before .before .before .before .before .before .before .before .before .before .before .before in
-    fits-front (run s) (s .args .scratch .now) (s .args .need) (s .pre .0) (s .pre .1) (s .pre .2)
+    fits-front (run s) _ (s .args .need) (s .args .scratch .now) refl (s .pre .0) (s .pre .1) (s .pre .2)
 
 changes-requires : tie.Need-changes-requires
 changes-requires c κs =
@@ -137,7 +138,7 @@ finish-requires c κs =
     let y = solved (moved (new (left x))) in
     let s = start y in
     finish-ready (run s) _ (s .args .sigma .now) (s .args .diagnostics .now) (y .solve .result) _
-    (fits-front (run s) _ (s .args .need) (s .pre .0) (s .pre .1) (lent-fits (wrote-all x)))
+    (fits-front (run s) _ (s .args .need) _ refl (s .pre .0) (s .pre .1) (lent-fits (wrote-all x)))
     (step-kept (wrote-all x) (y .solve .result) _ (y .solve .ensures .0)) (step-in-order (run s) (s .args .coefficients .now)) (s .pre .5) (s .pre .6)
 
 same-length-5 : tie.Need-same-length-5

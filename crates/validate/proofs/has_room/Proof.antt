@@ -1,27 +1,27 @@
 -- `validate::has_room` meets its contract. Assumes nothing.
 use borrow.Author.Tests.{le-leb, lt-leb}
-use Rattle.validate.specs.Questions.{room}
+use Rattle.validate.specs.Questions.{enoughRoom}
 use borrow.Author.Needs.{needs}
 use Rattle.validate.proofs.has_room.Statement.{statement}
 use Rattle.validate.proofs.has_room.Tie as tie
 
 returns : tie.Need-returns
-unfolding room
+unfolding enoughRoom
 returns c = simp (lt-leb _ _ (c .if1 .taken))
 
 returns-2 : tie.Need-returns-2
-unfolding room
+unfolding enoughRoom
 returns-2 c = simp (le-leb _ _ (c .before .before .if1 .left), lt-leb _ _ (c .if2 .taken))
 
 returns-3 : tie.Need-returns-3
-unfolding room
+unfolding enoughRoom
 returns-3 c =
     let r2 = c .before .before in
     let r1 = r2 .before .before in
     simp (le-leb _ _ (r1 .if1 .left), le-leb _ _ (r2 .if2 .left), lt-leb _ _ (c .if3 .taken))
 
 returns-4 : tie.Need-returns-4
-unfolding room
+unfolding enoughRoom
 returns-4 c =
     let r3 = c .before .before in
     let r2 = r3 .before .before in
@@ -29,7 +29,7 @@ returns-4 c =
     simp (le-leb _ _ (r1 .if1 .left), le-leb _ _ (r2 .if2 .left), le-leb _ _ (r3 .if3 .left), lt-leb _ _ (c .if4 .taken))
 
 returns-5 : tie.Need-returns-5
-unfolding room
+unfolding enoughRoom
 returns-5 c =
     let r4 = c .before in
     let r3 = r4 .before .before in

@@ -26,7 +26,9 @@ blank : (A : Type 0) (f : A → ℕ) (s : List A) (out : List ℕ) → length s 
 blank A f s out p q = record { long = q ∙ sym p; written = refl }
 
 abbrev Inv-loop : tie.InvT-loop
-Inv-loop list functions₀ coordinates₀ frequencies₀ i₀ functions coordinates frequencies i = (i ≤ 7) × (length list ≡ 7) × Mapped functionOf list functions i × Mapped coordinateOf list coordinates i × Mapped frequencyOf list frequencies i
+Inv-loop list functions₀ coordinates₀ frequencies₀ i₀ functions coordinates frequencies i =
+    (i ≤ 7) × (length list ≡ 7) × Mapped functionOf list functions i × Mapped coordinateOf list coordinates i
+    × Mapped frequencyOf list frequencies i
 
 abbrev μ-loop : tie.MeasureT-loop
 μ-loop list functions₀ coordinates₀ frequencies₀ i₀ functions coordinates frequencies i = 7 - i

@@ -15,7 +15,13 @@ unfolding termAnswer
 returns-2 c =
     let coded = c .before .before .before in
     let listed = coded .before .before .before .before in
-    rw (eq-eqb _ 0 (listed .before .before .before .before .before .if1 .left), coded .kind-code .ensures, c .before .before .number-of .ensures, c .before .result-of .ensures, listed .component-codes .ensures)
+    rw (
+      eq-eqb _ 0 (listed .before .before .before .before .before .if1 .left),
+      coded .kind-code .ensures,
+      c .before .before .number-of .ensures,
+      c .before .result-of .ensures,
+      listed .component-codes .ensures,
+    )
 
 pub term-answer-spec : {M : Type 1} → statement M
 term-answer-spec =

@@ -31,7 +31,13 @@ returns-5 c =
     let numbers = c .before in
     let sized = numbers .before .before in
     let a = sized .before .before .before .before .before .args in
-    rw (le-leb _ 32 (sized .before .before .if1 .left), eq-eqb _ _ (sized .before .if2 .left), not-false (a .counted) (sized .if3 .left), was-yes (numbers .before .all-finite .ensures) (numbers .if4 .left), not-true (a .finite) (c .if5 .taken))
+    rw (
+      le-leb _ 32 (sized .before .before .if1 .left),
+      eq-eqb _ _ (sized .before .if2 .left),
+      not-false (a .counted) (sized .if3 .left),
+      was-yes (numbers .before .all-finite .ensures) (numbers .if4 .left),
+      not-true (a .finite) (c .if5 .taken),
+    )
 
 returns-6 : tie.Need-returns-6
 unfolding refusalOf
