@@ -35,7 +35,7 @@ const fn iterated_only(name: &'static str, weight: usize, make: Make) -> Regime 
     }
 }
 
-pub const REGIMES: [Regime; 37] = [
+pub const REGIMES: [Regime; 38] = [
     both("real", 200, |maker, mode| maker.real(mode, 6, 12)),
     both("each name", 40, each_name),
     both("extreme numbers", 120, |maker, mode| maker.extreme(mode)),
@@ -78,6 +78,13 @@ pub const REGIMES: [Regime; 37] = [
         maker.faulty(&[mode], |_, case| {
             case.places[buffer] = case.required()[buffer].saturating_sub(fewer);
         })
+    }),
+    both("lengths of scratch", 20, |maker, mode| {
+        let mut case = maker.real(mode, 6, 12);
+        let lengths = case.scratch_lengths();
+        let between = maker.random.within(lengths[0], lengths[3]);
+        case.places[4] = maker.random.pick(&[&lengths[..], &[between]].concat());
+        case
     }),
     both("a number not finite", 20, |maker, mode| {
         maker.faulty(&[mode], |maker, case| maker.fault(case, 4))

@@ -12,8 +12,7 @@
 
 #include "pointing.h"
 
-enum { TERMS = 16, STARS = 100, HEADER = 75, OF_TERM = 25, OF_STAR = 313 };
-enum { SCRATCH = (4 * STARS + 3 * TERMS) * TERMS + 8 * STARS + 8 * TERMS };
+enum { TERMS = 16, STARS = 100, SCRATCH = POINTING_SCRATCH(TERMS, STARS), HEADER = 75, OF_TERM = 25, OF_STAR = 313 };
 
 static uint8_t file[HEADER + OF_TERM * TERMS + OF_STAR * STARS + 1];
 

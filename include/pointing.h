@@ -63,8 +63,10 @@ extern "C" {
 #define POINTING_MAX_STARS 1024
 #define POINTING_MAX_ITER 1000
 
-/* The most scratch that a fit asks, in doubles: (4 n + 3 m) m + 8 n + 8 m for m = 32, n = 1,024. */
-#define POINTING_MAX_SCRATCH 142592
+/* Doubles of scratch that a fit of m terms and n stars asks, for arrays declared ahead: what pointing_scratch_length answers for m and n within the
+ * limits. The most is 77,056. */
+#define POINTING_SCRATCH(m, n) ((2 * (n) + 3 * (m)) * (m) + 8 * (n) + 8 * (m))
+#define POINTING_MAX_SCRATCH POINTING_SCRATCH(POINTING_MAX_TERMS, POINTING_MAX_STARS)
 
 enum pointing_pier { POINTING_UNKNOWN = 0, POINTING_EAST = 1, POINTING_WEST = 2 };
 

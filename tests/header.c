@@ -1,4 +1,5 @@
-/* Tests what include/pointing.h says at the edges: null pointers of length 0, fixed coefficients of -0, and what a fit reports of itself. */
+/* Tests what include/pointing.h says at the edges: null pointers of length 0, fixed coefficients of -0, the length of scratch, and what a fit reports of
+ * itself. */
 
 #include "stars.h"
 
@@ -60,6 +61,39 @@ static void fixed_coefficients(void) {
     expect(iterated().refusal == 0 && bits(out[1]) == bits(-0.0) && bits(out[2]) == bits(0.3), "the iterated fit keeps its bits");
 }
 
+/* The single step in scratch of another length, which holds 7 before. */
+static double lent[SCRATCH + 2 * M * N];
+
+static pointing_fit_answer in_scratch(size_t length) {
+    for (int i = 0; i < SCRATCH + 2 * M * N; i++) lent[i] = 7;
+    return pointing_fit_model(names, 16 * M, fixed, M, start, M, dh, N, dd, N, pier, N, sheets, 37 * N, 0.5, 0.8, 1e-12, out, M, change, M, sigma, M,
+                              diagnostics, 3 * N, lent, length);
+}
+
+/* Whether so many places of it were made zeros, and no more. */
+static bool cleared(int count) {
+    bool held = true;
+    for (int i = 0; i < SCRATCH + 2 * M * N; i++) held = held && bits(lent[i]) == bits(i < count ? 0.0 : 7.0);
+    return held;
+}
+
+/* The length asked, one less, one more, and two doubles longer for each term and star, as document 01 asked. */
+static void scratch_lengths(void) {
+    bool same = POINTING_MAX_SCRATCH == 77056;
+    for (size_t m = 0; m <= 32; m++) {
+        for (size_t n = 0; n <= 1024; n++) {
+            pointing_scratch asked = pointing_scratch_length(m, n);
+            same = same && asked.refusal == 0 && asked.length == POINTING_SCRATCH(m, n);
+        }
+    }
+    expect(same, "POINTING_SCRATCH is what pointing_scratch_length answers, 77,056 at most");
+    fill(1);
+    expect(in_scratch(SCRATCH).refusal == 0 && cleared(SCRATCH), "a fit takes the scratch that it asks");
+    expect(in_scratch(SCRATCH - 1).refusal == 3 && cleared(0), "one double less gives 3");
+    expect(in_scratch(SCRATCH + 1).refusal == 0 && cleared(SCRATCH), "one double more is kept");
+    expect(in_scratch(SCRATCH + 2 * M * N).refusal == 0 && cleared(SCRATCH), "the length of document 01 still fits, its tail is kept");
+}
+
 static void reports(void) {
     fill(1);
     pointing_fit_answer said = single();
@@ -81,6 +115,7 @@ int main(void) {
     null_fits();
     null_points();
     fixed_coefficients();
+    scratch_lengths();
     reports();
     return failures != 0;
 }

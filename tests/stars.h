@@ -9,7 +9,7 @@
 
 #include "pointing.h"
 
-enum { M = 3, N = 5, SCRATCH = (4 * N + 3 * M) * M + 8 * N + 8 * M };
+enum { M = 3, N = 5, SCRATCH = POINTING_SCRATCH(M, N) };
 
 static const uint8_t names[16 * M + 1] = "IH\0\0\0\0\0\0\0\0\0\0\0\0\0\0ID\0\0\0\0\0\0\0\0\0\0\0\0\0\0CH\0\0\0\0\0\0\0\0\0\0\0\0\0";
 static uint8_t fixed[M], pier[N] = {1, 1, 1, 1, 1};

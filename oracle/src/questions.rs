@@ -135,8 +135,16 @@ impl Buffers {
     }
 }
 
+/// What question 3 asks of scratch: for each term a column of two rows for each star and three for
+/// each term, and eight numbers for each star and each term.
 pub fn scratch_size(m: usize, n: usize) -> usize {
-    (4 * n + 3 * m) * m + 8 * n + 8 * m
+    let column = 2 * n + 3 * m;
+    m * column + 8 * (n + m)
+}
+
+/// What document 01 asked of it: the unscaled design besides, two numbers for each term and star.
+pub fn scratch_size_with_design(m: usize, n: usize) -> usize {
+    scratch_size(m, n) + 2 * m * n
 }
 
 impl Run {

@@ -171,6 +171,31 @@ fn four_stars() {
 }
 
 #[test]
+fn scratch_lengths() {
+    for (m, n, length) in [(0, 0, 0), (1, 1, 21), (16, 100, 4896), (32, 1024, 77_056)] {
+        assert_eq!(scratch_length(m, n), Ok(length));
+    }
+    assert_eq!(scratch_length(33, 1), Err(1));
+    assert_eq!(scratch_length(1, 1025), Err(1));
+    let run = run(&["ID"], &[0.0], &[0], &[-10.0, -20.0, -10.0, -20.0]);
+    let of = |length: usize| {
+        let mut buffers = Buffers::exact(1, 4, 7.0);
+        buffers.scratch = vec![7.0; length];
+        let refusal = fit_model(&run, &mut buffers).err();
+        (refusal, buffers)
+    };
+    assert_eq!(of(50).0, Some(3));
+    // 59 is what document 01 asked
+    for length in [51, 52, 59] {
+        let (refusal, buffers) = of(length);
+        assert_eq!(refusal, None);
+        assert_eq!(buffers.coefficients, [15.0]);
+        assert_eq!(buffers.scratch[..51], [0.0; 51]);
+        assert!(buffers.scratch[51..].iter().all(|&x| x == 7.0));
+    }
+}
+
+#[test]
 fn limits() {
     let dd = vec![-10.0; 1025];
     let many = vec!["ID"; 33];

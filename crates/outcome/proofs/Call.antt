@@ -23,7 +23,7 @@ use Rattle.outcome.specs.Scratch.{countOf, heightIn}
 
 scratch-enough : (m n : ℕ) → 8 * n + m * (2 * n + 2 * m) ≤ scratchNeeded m n
 unfolding scratchNeeded
-scratch-enough m n = let e : (4 * n + 3 * m) * m ≡ m * (2 * n + 2 * m) + (2 * n * m + m * m) = omega arith in omega arith
+scratch-enough m n = let e : (2 * n + 3 * m) * m ≡ m * (2 * n + 2 * m) + m * m = omega arith in omega arith
 
 module _ (l : FitInputs) (r : RunInputs) (need : ℕ) (is : r ≡ runInputsOf l)
     (enough : need ≡ scratchNeeded (length (l .coefficients)) (length (l .dh))) where

@@ -3,3 +3,4 @@ pub mod Laws
 pub mod Runs
 pub mod Call
 pub mod Diagnostics
+pub mod AnyScratch

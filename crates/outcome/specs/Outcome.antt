@@ -1,5 +1,6 @@
 -- What both fits are made of after their last solve: sigma, diagnostics, the answer, and what each buffer holds at the end. Definitions only.
 use Prim.Native.Nat.{ℕ, _+_, _*_}
+use mathlib.Core.Path.{_≡_}
 use mathlib.Core.List.{List, [], _∷_, _++_}
 use lib.ListN.{length, drop, replicate}
 use lib.Ieee.{Float}
@@ -56,6 +57,14 @@ pub record Outcome : Type 0 where
 
 abbrev pub outcome : Fit → Buffers → Outcome
 outcome f b = record { answer = f; left = b }
+
+-- two that agree in all but what scratch holds
+pub record SameFit (x y : Outcome) : Type 0 where
+  pub answer : x .answer ≡ y .answer
+  pub coefficients : x .left .coefficients ≡ y .left .coefficients
+  pub change : x .left .change ≡ y .left .change
+  pub sigma : x .left .sigma ≡ y .left .sigma
+  pub diagnostics : x .left .diagnostics ≡ y .left .diagnostics
 
 -- a call by the answer of its questions: the fit, or the refusal with every buffer as it was
 abbrev pub decided : Asked → Outcome → Buffers → Outcome

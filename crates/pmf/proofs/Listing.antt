@@ -17,12 +17,12 @@ use Rattle.solver.specs.declared.IterOptions.{IterOptions}
 use Rattle.solver.specs.declared.Settings.{Settings}
 use Rattle.solver.specs.declared.Sizes.{Sizes}
 use Rattle.solver.specs.Call.{FitInputs, Buffers, inputs, buffers, sizesOf}
-use Rattle.validate.specs.Questions.{asked, Ready}
+use Rattle.validate.specs.Questions.{scratchNeeded, asked, Ready}
 use Rattle.validate.specs.declared.Asked.{Asked}
 use Rattle.validate.specs.declared.Asked.the-variants.{Pass, No}
 use Rattle.validate.proofs.Passed.{ready}
 use Rattle.outcome.specs.Outcome.{outcome}
-use Rattle.pmf.specs.File.{fileTerms, termCount, starCount, namesPlace, flagsPlace, dhPlace, ddPlace}
+use Rattle.pmf.specs.File.{fileTerms, fileStars, termCount, starCount, namesPlace, flagsPlace, dhPlace, ddPlace}
 use Rattle.pmf.specs.File.{coefficientsOf, differencesOf, piersOf, sheetsOf, settingsIn, inputOf, Decoded}
 use Rattle.pmf.specs.Pmf.{room, fitOf, outcomeOf, outcomeText, written}
 
@@ -46,11 +46,11 @@ input-is s en ef d ec = rw (en, ef, d .coefficients-are, d .dh-are, d .dd-are, d
 -- ---- the fit's buffers
 
 abbrev roomSizes : Sizes
-roomSizes = record { coefficients = fileTerms; change = fileTerms; sigma = fileTerms; diagnostics = 300; scratch = 8096 }
+roomSizes = record { coefficients = fileTerms; change = fileTerms; sigma = fileTerms; diagnostics = 300; scratch = 4896 }
 
 room-sizes : sizesOf room ≡ roomSizes
-unfolding room
-room-sizes = rw (length-replicate fileTerms #0, length-replicate 300 #0, length-replicate 8096 #0)
+unfolding room scratchNeeded
+room-sizes = rw (length-replicate fileTerms #0, length-replicate (3 * fileStars) #0, length-replicate (scratchNeeded fileTerms fileStars) #0)
 
 module _ (mode : ℕ) (l : FitInputs) (o : IterOptions) (r : Asked) (e : r ≡ asked l o roomSizes) where
   pub asked-no : (k : ℕ) → r ≡ No k → outcomeText l (outcomeOf mode l o) ≡ refusalText k
@@ -65,7 +65,7 @@ module _ (mode : ℕ) (l : FitInputs) (o : IterOptions) (r : Asked) (e : r ≡ a
   asked-ready q = rw room-sizes (ready l o roomSizes r q e)
 
 module _ {a b c d w : List Float} (ea : a ≡ replicate fileTerms #0) (eb : b ≡ replicate fileTerms #0) (ec : c ≡ replicate fileTerms #0)
-    (ed : d ≡ replicate 300 #0) (ew : w ≡ replicate 8096 #0) where
+    (ed : d ≡ replicate (3 * fileStars) #0) (ew : w ≡ replicate (scratchNeeded fileTerms fileStars) #0) where
   -- buffers that hold zeros
   room-is : buffers a b c d w ≡ room
   unfolding room

@@ -1,5 +1,5 @@
 -- The file program from bytes to listing (docs/SCOPE.md 11.2 and 11.3). Definitions only.
-use Prim.Native.Nat.{ℕ, _≤_}
+use Prim.Native.Nat.{ℕ, _*_, _≤_}
 use mathlib.Core.Path.{_≡_}
 use mathlib.Core.Bool.{Bool, _&&_, _||_, cond}
 use mathlib.Core.List.{List, [], _∷_, _++_}
@@ -13,7 +13,7 @@ use Rattle.solver.specs.declared.Fit.{Fit}
 use Rattle.solver.specs.declared.Fit.the-variants.{Done, Refused}
 use Rattle.solver.specs.declared.IterOptions.{IterOptions}
 use Rattle.solver.specs.Call.{FitInputs, Buffers, buffers, sizesOf}
-use Rattle.validate.specs.Questions.{asked}
+use Rattle.validate.specs.Questions.{scratchNeeded, asked}
 use Rattle.outcome.specs.Outcome.{Outcome, decided}
 use Rattle.single_step.specs.SingleStep.{fitted as singleStep}
 use Rattle.iterated.specs.Iterated.{fitted as iterated}
@@ -47,9 +47,11 @@ pub record WellFormed (s : List ℕ) : Type 0 where
 
 -- ---- the fit
 
--- the buffers of a fit of 16 terms to 100 stars
+-- the buffers that the fit of the largest file needs
 unfoldable pub room : Buffers
-room = let terms = replicate fileTerms #0 in buffers terms terms terms (replicate 300 #0) (replicate 8096 #0)
+room =
+    let terms = replicate fileTerms #0 in
+    buffers terms terms terms (replicate (3 * fileStars) #0) (replicate (scratchNeeded fileTerms fileStars) #0)
 
 -- the fit of a mode: 0 is the single step, 1 and 3 are the iterated fit
 unfoldable pub fitOf : ℕ → FitInputs → IterOptions → Buffers → Outcome

@@ -9,9 +9,9 @@ ghost use Rattle.terms.specs.Names.{same};
 ghost use Rattle.listing.specs.Text.{Wrote};
 ghost use Rattle.listing.specs.Listing.{listingRoom};
 ghost use Rattle.solver.specs.Call.{FitInputs, inputs, buffers, sizesOf};
-ghost use Rattle.validate.specs.Questions.{Ready};
+ghost use Rattle.validate.specs.Questions.{scratchNeeded, Ready};
 ghost use Rattle.outcome.specs.Outcome.{outcome};
-ghost use Rattle.pmf.specs.File.{fileTerms, markOf, termCount, modeOf, inputOf, optionsOf, Decoded};
+ghost use Rattle.pmf.specs.File.{fileTerms, fileStars, markOf, termCount, modeOf, inputOf, optionsOf, Decoded};
 ghost use Rattle.pmf.specs.Pmf.{modeKnown, fileNo, WellFormed, fitOf, room, outcomeOf, outcomeText, listedIn};
 
 mod file;
@@ -33,6 +33,11 @@ use validate::Asked;
 
 // One byte more than the longest file has: what lies behind it changes no listing.
 pub const FILE_ROOM: usize = 31776;
+
+// The diagnostics and the scratch that the fit of the largest file needs.
+const FILE_DIAGNOSTICS: usize = 300;
+
+const FILE_SCRATCH: usize = 4896;
 
 // Whether a file begins with the mark.
 fn marked(s: &[u8]) -> bool
@@ -156,16 +161,16 @@ fn term_room() -> [f64; FILE_TERMS]
     [0.0; FILE_TERMS]
 }
 
-fn diagnostics_room() -> [f64; 300]
-    ensures { λ r. ⌜ r ≡ replicate 300 #0 ⌝ }
+fn diagnostics_room() -> [f64; FILE_DIAGNOSTICS]
+    ensures { λ r. ⌜ r ≡ replicate (3 * fileStars) #0 ⌝ }
 {
-    [0.0; 300]
+    [0.0; FILE_DIAGNOSTICS]
 }
 
-fn scratch_room() -> [f64; 8096]
-    ensures { λ r. ⌜ r ≡ replicate 8096 #0 ⌝ }
+fn scratch_room() -> [f64; FILE_SCRATCH]
+    ensures { λ r. ⌜ r ≡ replicate (scratchNeeded fileTerms fileStars) #0 ⌝ }
 {
-    [0.0; 8096]
+    [0.0; FILE_SCRATCH]
 }
 
 // The listing of a fit whose questions are all passed.
@@ -235,8 +240,8 @@ fn list_input(
         coefficients: FILE_TERMS,
         change: FILE_TERMS,
         sigma: FILE_TERMS,
-        diagnostics: 300,
-        scratch: 8096,
+        diagnostics: FILE_DIAGNOSTICS,
+        scratch: FILE_SCRATCH,
     };
     let asked = validate::questions(
         names,

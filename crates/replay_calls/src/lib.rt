@@ -135,16 +135,13 @@ fn hold_buffer(held: Held, s: &[f64], n: usize) -> Held {
     }
 }
 
-// Scratch after an accepted fit: zeros where it was needed, and the rest as it was.
-fn cleared(s: &[f64], m: usize, n: usize) -> bool
-    requires { ⌜ (m ≤ 40) × (n ≤ 1100) ⌝ }
-{
-    let need = (4 * n + 3 * m) * m + 8 * n + 8 * m;
-    if s.len() < need {
+// Scratch after an accepted fit: n zeros, and the rest as it was.
+fn cleared(s: &[f64], n: usize) -> bool {
+    if s.len() < n {
         return false;
     }
-    let zeros = all_are(&s[..need], 0.0);
-    let kept = all_are(&s[need..], BEFORE);
+    let zeros = all_are(&s[..n], 0.0);
+    let kept = all_are(&s[n..], BEFORE);
     zeros && kept
 }
 
@@ -238,7 +235,7 @@ fn hold_fit(
     diagnostics: &[f64],
     scratch: &[f64],
 ) -> Held
-    requires { ⌜ (m ≤ 40) × (n ≤ 1100) ⌝ }
+    requires { ⌜ n ≤ 1100 ⌝ }
 {
     let mut held = Held {
         same: true,
@@ -249,7 +246,8 @@ fn hold_fit(
     held = hold_buffer(held, sigma, m);
     held = hold_buffer(held, diagnostics, 3 * n);
     held = hold_result(held, r);
-    let zeros = cleared(scratch, m, n);
+    let needed = replay::large(150000);
+    let zeros = cleared(scratch, needed);
     Held {
         same: held.same && zeros,
         numbers: held.numbers,
@@ -390,7 +388,7 @@ fn judge(
     diagnostics: &[f64],
     scratch: &[f64],
 ) -> Tally
-    requires { ⌜ (m ≤ 40) × (n ≤ 1100) ⌝ }
+    requires { ⌜ n ≤ 1100 ⌝ }
 {
     t.fits = replay::more(t.fits);
     let expected = replay::byte();

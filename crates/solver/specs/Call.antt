@@ -36,6 +36,10 @@ abbrev pub buffers : List Float → List Float → List Float → List Float →
 buffers coefficients change sigma diagnostics scratch =
     record { coefficients = coefficients; change = change; sigma = sigma; diagnostics = diagnostics; scratch = scratch }
 
+-- those with another scratch
+abbrev pub withScratch : List Float → Buffers → Buffers
+withScratch w b = buffers (b .coefficients) (b .change) (b .sigma) (b .diagnostics) w
+
 -- how long they are
 abbrev pub sizesOf : Buffers → Sizes
 sizesOf b =

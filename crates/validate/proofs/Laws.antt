@@ -7,7 +7,7 @@ use mathlib.Core.Bool.{true, false, _&&_}
 use borrow.Author.Tests.{leb-true, eqb-true, lt-ltb, le-ltb}
 use lib.Dec.{leb, ltb, eqb}
 use Rattle.sequence.proofs.Tests.{left-of, right-of}
-use Rattle.validate.specs.Questions.{inLimits, counts}
+use Rattle.validate.specs.Questions.{inLimits, counts, scratchNeeded}
 
 -- ---- questions 1 to 3
 
@@ -42,8 +42,13 @@ counts-facts names fixed dd pier sheets m n e =
     }
 
 -- the product in what scratch needs
-pub area : (m n : ℕ) → m ≤ 32 → n ≤ 1024 → (4 * n + 3 * m) * m ≤ 4192 * 32
-area m n p q = mul-le-mul {n₂ = 4192} {m₂ = 32} (omega arith) p
+pub area : (m n : ℕ) → m ≤ 32 → n ≤ 1024 → (2 * n + 3 * m) * m ≤ 2144 * 32
+area m n p q = mul-le-mul {n₂ = 2144} {m₂ = 32} (omega arith) p
+
+-- it needs at most what document 01 asks
+pub scratch-shorter : (m n : ℕ) → scratchNeeded m n ≤ (4 * n + 3 * m) * m + 8 * n + 8 * m
+unfolding scratchNeeded
+scratch-shorter m n = let e : (4 * n + 3 * m) * m ≡ (2 * n + 3 * m) * m + 2 * n * m = omega arith in omega arith
 
 -- ---- counts
 

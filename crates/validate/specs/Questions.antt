@@ -31,7 +31,7 @@ counts names fixed dd pier sheets m n = eqb names (slotBytes * m) && eqb fixed m
 
 -- what scratch needs
 unfoldable pub scratchNeeded : ℕ → ℕ → ℕ
-scratchNeeded m n = (4 * n + 3 * m) * m + 8 * n + 8 * m
+scratchNeeded m n = (2 * n + 3 * m) * m + 8 * n + 8 * m
 
 -- 3: room in the buffers
 unfoldable pub enoughRoom : Sizes → ℕ → ℕ → Bool

@@ -70,7 +70,7 @@ pub fn scratch_needed(m: usize, n: usize) -> usize
     requires { ⌜ (m ≤ maxTerms) × (n ≤ maxStars) ⌝ }
     ensures { λ r. ⌜ r ≡ scratchNeeded m n ⌝ }
 {
-    (4 * n + 3 * m) * m + 8 * n + 8 * m
+    (2 * n + 3 * m) * m + 8 * n + 8 * m
 }
 
 // Question 3.

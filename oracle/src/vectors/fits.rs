@@ -36,7 +36,7 @@ fn assert_limits(case: &Case) {
     assert!(case.run.names.len() <= 16 * m + 16 && case.run.fixed.len() <= m + 16);
     assert!(case.run.dd.len() <= n + 16 && case.run.piers.len() <= n + 16);
     assert!(case.sheet_numbers <= 41_000 && case.sheet_numbers <= 37 * n + 16);
-    for (places, required) in case.places.iter().zip(case.required()) {
+    for (places, required) in case.places[..4].iter().zip(case.required()) {
         assert!(*places <= required + 16);
     }
     assert!(case.places[4] <= 150_000);
@@ -121,6 +121,7 @@ impl<'a> Records<'a> {
             Ok(fit) => {
                 self.stdin.push(0);
                 put_fit(&mut self.stdin, &fit);
+                put_u32(&mut self.stdin, case.required()[4]);
                 self.refused[0] += 1;
                 self.deficient += fit.rank_info.is_deficient() as usize;
                 self.not_numbers += floats(&fit).iter().any(|x| x.is_nan()) as usize;

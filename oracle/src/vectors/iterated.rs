@@ -233,6 +233,7 @@ fn cases(maker: &mut Maker) -> Vec<Case> {
     regimes(maker, &mut out);
     out.extend(maker.shape_refusals(&MODES));
     out.extend(maker.refusals(&MODES, &ASKED));
+    maker.in_each_scratch(&MODES, &mut out);
     out
 }
 

@@ -3,7 +3,8 @@
 use super::angles;
 use super::random::{Random, EXTREME};
 use crate::questions::{
-    fit_model, fit_model_iterated, jacobian, scratch_size, Buffers, Point, Run, NAME,
+    fit_model, fit_model_iterated, jacobian, scratch_size, scratch_size_with_design, Buffers,
+    Point, Run, NAME,
 };
 use crate::sheet::SHEET;
 use crate::solver::{FitResult, IterOptions};
@@ -144,6 +145,13 @@ impl Case {
     pub fn required(&self) -> [usize; 5] {
         let (m, n) = (self.m(), self.n());
         [m, m, m, 3 * n, scratch_size(m, n)]
+    }
+
+    /// Lengths of scratch: the required one, one less, one more, and what document 01 asked.
+    pub fn scratch_lengths(&self) -> [usize; 4] {
+        let required = self.required()[4];
+        let before = scratch_size_with_design(self.m(), self.n());
+        [required, required - 1, required + 1, before]
     }
 
     /// The run with its sheets.
@@ -392,11 +400,35 @@ impl Maker<'_> {
         }
     }
 
-    /// Buffers exact or up to 16 places longer.
+    /// Buffers exact or up to 16 places longer, and scratch also as long as document 01 asked.
     pub fn places(&mut self, case: &mut Case) {
         case.places = case.required();
         for count in &mut case.places {
             *count += self.random.pick(&[0, 0, 0, 1, 2, 16]);
+        }
+        if case.places[4] == case.required()[4] + 16 {
+            case.places[4] = scratch_size_with_design(case.m(), case.n());
+        }
+    }
+
+    /// Runs of several sizes up to the limits with each length of scratch, and a small one with
+    /// every length around and between.
+    pub fn in_each_scratch(&mut self, modes: &[u8], out: &mut Vec<Case>) {
+        for &mode in modes {
+            for (m, n) in [(1, 1), (3, 5), (6, 20), (16, 100), (32, 1024)] {
+                let mut case = self.real_of(mode, &NAMES[..m], n);
+                case.options.max_iter = 1;
+                for length in case.scratch_lengths() {
+                    case.places[4] = length;
+                    out.push(case.clone());
+                }
+            }
+            let mut case = self.real_of(mode, &NAMES[..2], 3);
+            let [required, .., before] = case.scratch_lengths();
+            for length in required - 2..before + 2 {
+                case.places[4] = length;
+                out.push(case.clone());
+            }
         }
     }
 

@@ -103,6 +103,7 @@ fn cases(maker: &mut Maker) -> Vec<Case> {
         case.options.lambda_down = f64::NAN;
         out.push(case);
     }
+    maker.in_each_scratch(&[SINGLE], &mut out);
     out
 }
 
