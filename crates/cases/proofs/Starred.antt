@@ -15,7 +15,7 @@ use Rattle.column.specs.Column.{norms, norm, scaleOf, scaledColumn, unitColumn,
 use Rattle.order.specs.Order.{order, best}
 use Rattle.linalg.specs.Linalg.{solved, answered, decomposed, inverses, inverse, rankTo, projected, xScaled, solution, scaledVariance, covariance, leverageOf, threshold, solvedDamped}
 use Rattle.design.specs.Design as Design
-use Rattle.design.specs.Design.{kept, collectIndices, column, skyColumn, differences, skyRows, skyDifferences, subtractAll, product, predicted, scattered, weighing, stacked}
+use Rattle.design.specs.Design.{kept, collectIndices, pairs, column, skyColumn, differences, skyRows, skyDifferences, subtractAll, product, predicted, scattered, weighing, stacked}
 use Rattle.validate.specs.Questions.{asked, inLimits, counts, scratchNeeded, enoughRoom, finiteSettings, finiteInput, finiteOptions, codesKnown}
 use Rattle.stats.specs.Stats.{sumSqSky, skyFrom, variance, deviation, clamped, studentizedRow, diagnostic}
 use Rattle.best.specs.ChiSquare.{chi}
@@ -30,7 +30,7 @@ use Rattle.cases.specs.Cases.{Starred}
 pub starred : Starred
 unfolding nameOf wellFormed digitsFrom unsigned components parseHarmonic readHarmonic byKnown readTerm jacobianOf pointOf isFinite abs neg add sub mul div lt
     le eq ofBits ofInt Root.sqrt table filled each sumTo sumBut dot zipWith fitOutcome asked inLimits counts scratchNeeded enoughRoom finiteInput finiteOptions
-    codesKnown firstOf finished step toFit newCoefficients freeResiduals sigmaOf diagnosticOf concatTo Design.rows column skyColumn differences
+    codesKnown firstOf finished step toFit newCoefficients freeResiduals sigmaOf diagnosticOf concatTo Design.rows pairs column skyColumn differences
     skyDifferences subtractAll product stacked sumSqSky variance deviation clamped studentizedRow diagnostic solved answered decomposed norms norm scaleOf
     scaledColumn unitColumn columns diagonal diagonals extended inverses inverse rankTo projected xScaled solution scaledVariance covariance leverageOf
     threshold order best sweeps sweep row pair turn zetaOf tanOf cosOf iteratedOutcome lmLoop after lastSet Iterated.freeResiduals chi skyResiduals huberFrom

@@ -3,3 +3,4 @@ pub mod Stars
 pub mod Terms
 pub mod Indices
 pub mod Runs
+pub mod Matrix

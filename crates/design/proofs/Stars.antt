@@ -10,7 +10,7 @@ use Rattle.sequence.specs.Sequence.{at}
 use Rattle.solver.specs.declared.Settings.{Settings}
 use Rattle.terms.specs.declared.Term.{Term}
 use Rattle.design.specs.Design.{Star, sheetAt, starAt, starsAt, sightsAt, cosDec}
-use Rattle.design.specs.Design.{column, skyColumn, differences, skyDifferences, skyRows}
+use Rattle.design.specs.Design.{pairs, column, skyColumn, differences, skyDifferences, skyRows}
 use Rattle.design.proofs.Rows as rows
 pub use Rattle.design.proofs.Rows.{sky-rows-length}
 
@@ -24,10 +24,17 @@ module _ (dh dd : List Float) (pier : List ℕ) (sheets : List Float) (used : Li
   pub stars-count : length (starsAt dh dd pier sheets used) ≡ length used
   stars-count = length-map used (starAt dh dd pier sheets)
 
+  -- ---- a column on the sky
+
+  pub sky-column-is : (c : Settings) (t : Term) → skyRows (starsAt dh dd pier sheets used) (column c (starsAt dh dd pier sheets used) t)
+      ≡ skyColumn c (starsAt dh dd pier sheets used) t
+  unfolding column pairs skyColumn
+  sky-column-is c t = rows.sky-rows-of _ _ (starsAt dh dd pier sheets used)
+
   -- ---- what no row knows
 
   pub column-sights : (c : Settings) (t : Term) → column c (starsAt dh dd pier sheets used) t ≡ column c (sightsAt pier sheets used) t
-  unfolding column
+  unfolding column pairs
   column-sights c t = rows.rows-same (starAt dh dd pier sheets) _ _ (starAt [] [] pier sheets) (λ i. refl) (λ i. refl) used
 
   pub sky-column-sights : (c : Settings) (t : Term) → skyColumn c (starsAt dh dd pier sheets used) t ≡ skyColumn c (sightsAt pier sheets used) t

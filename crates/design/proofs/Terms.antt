@@ -1,22 +1,20 @@
 -- What one term's turn makes of the vector behind a column's room, and the loops over the terms. Assumes nothing.
-use Prim.Native.Nat.{ℕ, _+_, _-_, _*_, _≤_, _<_}
-use native.Mathlib.Nat.{le-antisymm}
-use native.Mathlib.Numerals.{add-one}
+use Prim.Native.Nat.{ℕ, _+_, _-_, _≤_, _<_}
 use native.Mathlib.Omega.{arith}
 use mathlib.Core.Path.{_≡_, refl, sym, ap, _∙_}
 use mathlib.Core.Logic.{inl, inr, ⊎-elim}
 use mathlib.Core.Bool.{Bool, true, false, cond}
-use mathlib.Core.List.{List, [], _∷_, _++_, map, zipWith, map-append, append-nil, append-assoc}
-use lib.ListN.{length, getD, take, drop, replicate, length-replicate}
-use lib.Seq.{sets, length-take-le, take-at, take-add, take-suc, take-length, drop-at, drop-drop}
+use mathlib.Core.List.{List, _++_, zipWith}
+use lib.ListN.{length, take, drop, replicate, length-replicate}
+use lib.Seq.{sets, length-take-le, take-at, drop-at}
 use lib.Ieee.{Float, lt}
 use Rattle.float.specs.Float.{#0}
 use Rattle.sequence.specs.Sequence.{part, each, Beside, Only}
-use Rattle.sequence.proofs.Parts.{apart, length-part, part-sets-same, length-zip, length-zip-part}
+use Rattle.sequence.proofs.Parts.{length-part, part-sets-same, length-zip, length-zip-part}
 use Rattle.sequence.proofs.Fills.{each-none, each-next, each-end}
-use Rattle.sequence.proofs.Only.{length-cut, only-none, only-sets, only-wider, only-then, back, back-long, back-only, back-part}
+use Rattle.sequence.proofs.Only.{only-sets, only-wider, only-then, back, back-long, back-only, back-part}
 use Rattle.terms.specs.declared.Term.{Term}
-use Rattle.design.specs.Design.{weighed, weighing, stacked}
+use Rattle.design.specs.Design.{weighed, weighing}
 use Rattle.design.specs.Counted.{Apart}
 
 -- ---- one term's turn
@@ -113,72 +111,3 @@ module _ {skip : Float → Bool} {f : Float → List Float → List Float → Li
 
     pub turned-end : m ≤ j → part v n n ≡ each m 0 (step skip f c a term) (part v₀ n n)
     turned-end h = each-end j m (step skip f c a term) (part v₀ n n) (part v n n) (t .low) h (t .is)
-
--- ---- columns one after the other
-
-part-split : (l : List Float) (i n k : ℕ) → part l i (n + k) ≡ part l i n ++ part l (i + n) k
-part-split l i n k = take-add n k (drop i l) ∙ ap (λ (r : List Float). take n (drop i l) ++ take k r) (drop-drop n i l)
-
--- a column a of n numbers has been written at x, and h - n zeros below it
-pub deepened : (w w₁ ys a : List Float) (x n h : ℕ) → n ≤ h → x + h ≤ length w → part w₁ x n ≡ a → Only x n w w₁
-    → length ys ≡ length (take (x + n + (h - n) - (x + n)) (drop (x + n) w₁))
-    → ys ≡ replicate (length (take (x + n + (h - n) - (x + n)) (drop (x + n) w₁))) #0
-    → (part (back w₁ ys (x + n) (h - n)) x h ≡ a ++ replicate (h - n) #0) × Only x h w (back w₁ ys (x + n) (h - n))
-deepened w w₁ ys a x n h low room is only kept e =
-    let v = back w₁ ys (x + n) (h - n) in
-    let whole : n + (h - n) ≡ h = omega arith in
-    let fits : x + n + (h - n) ≤ length w₁ = omega (arith, only .long) in
-    let zeros : ys ≡ replicate (h - n) #0 = rw (length-cut w₁ (x + n) (h - n) fits) at e in
-    let last : Only (x + n) (h - n) w₁ v = back-only w₁ ys (x + n) (h - n) fits kept in
-    let top : part v x n ≡ a = last .below x n (omega arith) ∙ is in
-    let rest : part v (x + n) (h - n) ≡ replicate (h - n) #0 = back-part w₁ ys (x + n) (h - n) fits kept ∙ zeros in (
-      rw (whole, top, rest) at (part-split v x n (h - n)),
-      only-then x h w w₁ v (only-wider x n x h w w₁ (omega arith) (omega arith) only) (only-wider (x + n) (h - n) x h w₁ v (omega arith) (omega arith) last),
-    )
-
-stacked-snoc : (h : ℕ) (l : List (List Float)) (a : List Float) → stacked h (l ++ (a ∷ [])) ≡ stacked h l ++ (a ++ replicate (h - length a) #0)
-unfolding stacked
-stacked-snoc h [] a = append-nil (a ++ replicate (h - length a) #0)
-stacked-snoc h (x ∷ l) a =
-    let z = x ++ replicate (h - length x) #0 in
-    ap (λ (r : List Float). z ++ r) (stacked-snoc h l a) ∙ sym (append-assoc z (stacked h l) (a ++ replicate (h - length a) #0))
-
--- the columns of the first i of the free terms have been stacked from c on, where all have room
-pub record Laid (a : ℕ → List Float) (free : List ℕ) (c h : ℕ) (w₀ w : List Float) (i : ℕ) : Type 0 where
-  pub low : i ≤ length free
-  pub fits : c + length free * h ≤ length w₀
-  pub is : part w c (i * h) ≡ stacked h (map a (take i free))
-  pub only : Only c (length free * h) w₀ w
-
-module _ {a : ℕ → List Float} {free : List ℕ} {c h : ℕ} where
-  pub laid-none : {w : List Float} → c + length free * h ≤ length w → Laid a free c h w w 0
-  unfolding stacked
-  laid-none {w} room =
-      let none : 0 * h ≡ 0 = omega arith in
-      record { low = omega arith; fits = room; is = ap (λ (i : ℕ). part w c i) none; only = only-none c (length free * h) w }
-
-  module _ {w₀ w : List Float} {i : ℕ} (t : Laid a free c h w₀ w i) where
-    -- the next place ends within the list
-    pub laid-room : i < length free → (c + i * h + h ≤ length w₀) × (length w ≡ length w₀)
-    laid-room l = let place : i * h + h ≤ length free * h = apart i (length free) h l in (omega arith, t .only .long)
-
-    pub laid-next : (w′ : List Float) (n : ℕ) → i < length free → length (a (getD free i 0)) ≡ n
-        → (part w′ (c + i * h) h ≡ a (getD free i 0) ++ replicate (h - n) #0) × Only (c + i * h) h w w′ → Laid a free c h w₀ w′ (i + 1)
-    laid-next w′ n l long p =
-        let x = a (getD free i 0) in
-        let q : (i + 1) * h ≡ i * h + h = omega arith in
-        let place : i * h + h ≤ length free * h = apart i (length free) h l in
-        let old : part w′ c (i * h) ≡ stacked h (map a (take i free)) = p .1 .below c (i * h) (omega arith) ∙ t .is in
-        let more : map a (take (i + 1) free) ≡ map a (take i free) ++ (x ∷ []) =
-        rw (add-one i, take-suc free i 0 l) (map-append a (take i free) (getD free i 0 ∷ [])) in
-        record {
-          low = omega arith;
-          fits = t .fits;
-          is = rw (q, more, stacked-snoc h (map a (take i free)) x, long, ← old, ← p .0) (part-split w′ c (i * h) h);
-          only = only-then c (length free * h) w₀ w w′ (t .only) (only-wider (c + i * h) h c (length free * h) w w′ (omega arith) (omega arith) (p .1));
-        }
-
-    pub laid-end : length free ≤ i → (part w c (length free * h) ≡ stacked h (map a free)) × Only c (length free * h) w₀ w
-    laid-end l =
-        let e : i ≡ length free = le-antisymm (t .low) l in
-        (rw (e, take-length free) at (t .is), t .only)

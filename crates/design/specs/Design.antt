@@ -11,8 +11,9 @@ use Rattle.float.specs.Float.{_⊕_, _⊖_, _⊗_, _⊘_, #0, abs}
 use Rattle.sqrt.specs.Sqrt.{sqrt}
 use Rattle.sequence.specs.Sequence.{part, at, table, each}
 use Rattle.observation.specs.Observation.{signOf, sideOf}
-use Rattle.observation.specs.Sheet.{placeDec}
+use Rattle.observation.specs.Sheet.{placeDec, pointOf}
 use Rattle.observation.specs.declared.Pair.{Pair}
+use Rattle.observation.specs.declared.Point.{Point}
 use Rattle.terms.specs.Names.{readTerm}
 use Rattle.terms.specs.Slots.{slot}
 use Rattle.terms.specs.Jacobian.{termJacobian}
@@ -126,9 +127,17 @@ cosDec sheet = at sheet (placeDec 1 + 1)
 abbrev pub starJacobian : Settings → Term → Star → Pair
 starJacobian c t s = termJacobian t (s .sheet) (c .«sin_lat») (c .«cos_lat») (signOf (sideOf (s .pier)))
 
+-- what the equatorial terms read of a star
+abbrev pub pointAt : Settings → Star → Point
+pointAt c s = pointOf (s .sheet) (c .«sin_lat») (c .«cos_lat») (signOf (sideOf (s .pier)))
+
+-- a pair for each star
+unfoldable pub pairs : (Star → Pair) → List Star → List Float
+pairs f ss = rows (λ s. f s .dh) (λ s. f s .dd) ss
+
 -- build_design_matrix: the column of a term
 unfoldable pub column : Settings → List Star → Term → List Float
-column c ss t = rows (λ s. starJacobian c t s .dh) (λ s. starJacobian c t s .dd) ss
+column c ss t = pairs (starJacobian c t) ss
 
 -- scale_a_ha_rows_by_cos_dec: its hour-angle rows times cos dec
 unfoldable pub skyColumn : Settings → List Star → Term → List Float

@@ -1,2 +1,3 @@
 pub mod Design
 pub mod Counted
+pub mod Matrix

@@ -2,17 +2,23 @@
 // term. A vector has two numbers a star. After solver/design.rs.
 
 ghost use mathlib.Core.Path.{_≡_};
-ghost use mathlib.Core.List.{List, [], map, zipWith};
+ghost use mathlib.Core.List.{List, [], zipWith};
 ghost use Prim.Native.Nat.{_+_, _-_, _*_, _<_, _≤_};
 ghost use lib.ListN.{length};
 ghost use lib.Seq.{sets};
 ghost use lib.Ieee.{binary64, sub};
 ghost use Rattle.limits.specs.Limits.{maxTerms, slotBytes, sheetNumbers};
 ghost use Rattle.sequence.specs.Sequence.{at, part, Beside, Only};
-ghost use Rattle.design.specs.Design.{Star, sheetAt, starAt, starsAt, sightsAt, termAt, cosDec, starJacobian};
-ghost use Rattle.design.specs.Design.{column, skyColumn, differences, skyDifferences, skyRows, less, plus};
-ghost use Rattle.design.specs.Design.{subtractAll, product as productOf, predicted, extracted, weighed as weighedOf, weighing, weighedAt, stacked};
+ghost use Rattle.equatorial.specs.Equatorial.{kindOf, equatorialJacobian};
+ghost use Rattle.harmonic.specs.Value.{evaluate, harmonicJacobian};
+ghost use Rattle.design.specs.Design.{Star, sheetAt, starAt, starsAt, sightsAt, termAt, cosDec, pointAt};
+ghost use Rattle.design.specs.Design.{pairs, column, skyColumn, differences, skyDifferences, skyRows, less, plus};
+ghost use Rattle.design.specs.Design.{subtractAll, product as productOf, predicted, extracted, weighed as weighedOf, weighing, weighedAt};
 ghost use Rattle.design.specs.Counted.{Below, Seen, Named, Apart};
+ghost use Rattle.design.specs.Matrix.{matrixOf, FilledUpTo, FillsColumn, HasRoom};
+use equatorial::EquatorialTerm;
+use harmonic::Components;
+use harmonic::ResultType;
 use limits::MAX_TERMS;
 use limits::SHEET;
 use limits::SLOT;
@@ -20,17 +26,43 @@ use observation::Pair;
 use observation::PierSide;
 use solver::Settings;
 use terms::Term;
+use terms::TermKind;
 
-// ---- star by star
+// ---- one star
 
-// The Jacobian of a term at star i: the part of the lent sheets that belongs to it is passed on.
-fn jacobian_at(term: Term, pier: &[u8], sheets: &[f64], s: Settings, i: usize) -> Pair
+// The Jacobian at star i of the equatorial term with a code, where n is TXN's own number: the part of the lent sheets that belongs to the star is passed on.
+fn equatorial_at(code: u8, n: u8, pier: &[u8], sheets: &[f64], s: Settings, i: usize) -> Pair
     requires { ⌜ (i < length (now pier)) × (length (now sheets) ≡ sheetNumbers * length (now pier)) ⌝ }
-    ensures { λ r. ⌜ r ≡ starJacobian s term (starAt [] [] (now (pier .entry)) (now (sheets .entry)) i) ⌝ }
+    ensures { λ r. ⌜ r ≡ equatorialJacobian (kindOf code n) (pointAt s (starAt [] [] (now (pier .entry)) (now (sheets .entry)) i)) ⌝ }
 {
     let a = SHEET * i;
     let sign = PierSide::from_code(pier[i]).sign();
-    terms::jacobian_equatorial(term, &sheets[a..a + SHEET], s.sin_lat, s.cos_lat, sign)
+    terms::equatorial_jacobian(code, n, &sheets[a..a + SHEET], s.sin_lat, s.cos_lat, sign)
+}
+
+// That of a harmonic.
+fn harmonic_at(
+    result: ResultType,
+    components: Components,
+    pier: &[u8],
+    sheets: &[f64],
+    s: Settings,
+    i: usize,
+) -> Pair
+    requires { ⌜ (i < length (now pier)) × (length (now sheets) ≡ sheetNumbers * length (now pier)) ⌝ }
+    ensures { λ r. ⌜ r ≡ harmonicJacobian result (evaluate (sheetAt (now (sheets .entry)) i) components)
+        (pointAt s (starAt [] [] (now (pier .entry)) (now (sheets .entry)) i)) ⌝ }
+{
+    let a = SHEET * i;
+    let sign = PierSide::from_code(pier[i]).sign();
+    terms::harmonic_jacobian(
+        result,
+        components,
+        &sheets[a..a + SHEET],
+        s.sin_lat,
+        s.cos_lat,
+        sign,
+    )
 }
 
 // cos dec of star i.
@@ -42,42 +74,7 @@ pub fn cos_dec(sheets: &[f64], i: usize) -> f64
     observation::number_at(&sheets[a..a + SHEET], 19)
 }
 
-// The column of a term.
-fn fill_column(term: Term, pier: &[u8], sheets: &[f64], used: &[u16], s: Settings, col: &mut [f64])
-    ghost { List Star }
-    requires { λ ss. ⌜ sightsAt (now pier) (now sheets) (now used) ≡ ss ⌝ }
-    requires { λ _. ⌜ Seen (now pier) (now sheets) (now used) × (length (now col) ≡ 2 * length (now used)) ⌝ }
-    ensures { λ ss _. ⌜ now (col .exit) ≡ column s ss term ⌝ }
-{
-    for r in 0..used.len() {
-        let p = jacobian_at(term, pier, sheets, s, sequence::index(used[r]));
-        col[2 * r] = p.dh;
-        col[2 * r + 1] = p.dd;
-    }
-}
-
-// The same with the hour-angle rows times cos dec.
-fn fill_sky_column(
-    term: Term,
-    pier: &[u8],
-    sheets: &[f64],
-    used: &[u16],
-    s: Settings,
-    col: &mut [f64],
-)
-    ghost { List Star }
-    requires { λ ss. ⌜ sightsAt (now pier) (now sheets) (now used) ≡ ss ⌝ }
-    requires { λ _. ⌜ Seen (now pier) (now sheets) (now used) × (length (now col) ≡ 2 * length (now used)) ⌝ }
-    ensures { λ ss _. ⌜ now (col .exit) ≡ skyColumn s ss term ⌝ }
-{
-    for r in 0..used.len() {
-        let i = sequence::index(used[r]);
-        let p = jacobian_at(term, pier, sheets, s, i);
-        let c = cos_dec(sheets, i);
-        col[2 * r] = p.dh * c;
-        col[2 * r + 1] = p.dd;
-    }
-}
+// ---- residuals
 
 // The raw differences, with the hour-angle rows times cos dec.
 pub fn build_sky_residuals(dh: &[f64], dd: &[f64], sheets: &[f64], used: &[u16], b: &mut [f64])
@@ -117,6 +114,122 @@ pub fn scale_ha_rows(sheets: &[f64], n: usize, used: &[u16], b: &mut [f64])
         let c = cos_dec(sheets, sequence::index(used[r]));
         b[2 * r] = b[2 * r] * c;
     }
+}
+
+// ---- the column of a term, star by star
+
+// That of the equatorial term with a code; n is TXN's own number.
+fn fill_coded(
+    code: u8,
+    n: u8,
+    pier: &[u8],
+    sheets: &[f64],
+    used: &[u16],
+    s: Settings,
+    col: &mut [f64],
+)
+    ghost { List Star }
+    requires { λ ss. ⌜ sightsAt (now pier) (now sheets) (now used) ≡ ss ⌝ }
+    requires { λ _. ⌜ Seen (now pier) (now sheets) (now used) × (length (now col) ≡ 2 * length (now used)) ⌝ }
+    ensures { λ ss _. ⌜ now (col .exit) ≡ pairs (λ x. equatorialJacobian (kindOf code n) (pointAt s x)) ss ⌝ }
+{
+    for r in 0..used.len() {
+        let i = sequence::index(used[r]);
+        let p = equatorial_at(code, n, pier, sheets, s, i);
+        col[2 * r] = p.dh;
+        col[2 * r + 1] = p.dd;
+    }
+}
+
+// That of an equatorial term. Its kind is looked at here, once: as each code is a literal, the compiler makes a loop of each kind.
+fn fill_equatorial(
+    t: EquatorialTerm,
+    pier: &[u8],
+    sheets: &[f64],
+    used: &[u16],
+    s: Settings,
+    col: &mut [f64],
+)
+    ghost { List Star }
+    requires { λ ss. ⌜ sightsAt (now pier) (now sheets) (now used) ≡ ss ⌝ }
+    requires { λ _. ⌜ Seen (now pier) (now sheets) (now used) × (length (now col) ≡ 2 * length (now used)) ⌝ }
+    ensures { λ ss _. ⌜ now (col .exit) ≡ pairs (λ x. equatorialJacobian t (pointAt s x)) ss ⌝ }
+{
+    match t {
+        EquatorialTerm::IH => fill_coded(0, 0, pier, sheets, used, s, col),
+        EquatorialTerm::ID => fill_coded(1, 0, pier, sheets, used, s, col),
+        EquatorialTerm::CH => fill_coded(2, 0, pier, sheets, used, s, col),
+        EquatorialTerm::NP => fill_coded(3, 0, pier, sheets, used, s, col),
+        EquatorialTerm::MA => fill_coded(4, 0, pier, sheets, used, s, col),
+        EquatorialTerm::ME => fill_coded(5, 0, pier, sheets, used, s, col),
+        EquatorialTerm::TF => fill_coded(6, 0, pier, sheets, used, s, col),
+        EquatorialTerm::TX => fill_coded(7, 0, pier, sheets, used, s, col),
+        EquatorialTerm::TXN(n) => fill_coded(8, n, pier, sheets, used, s, col),
+        EquatorialTerm::DAF => fill_coded(9, 0, pier, sheets, used, s, col),
+        EquatorialTerm::FO => fill_coded(10, 0, pier, sheets, used, s, col),
+        EquatorialTerm::HCES => fill_coded(11, 0, pier, sheets, used, s, col),
+        EquatorialTerm::HCEC => fill_coded(12, 0, pier, sheets, used, s, col),
+        EquatorialTerm::DCES => fill_coded(13, 0, pier, sheets, used, s, col),
+        EquatorialTerm::DCEC => fill_coded(14, 0, pier, sheets, used, s, col),
+    }
+}
+
+// That of a harmonic.
+fn fill_harmonic(
+    result: ResultType,
+    components: Components,
+    pier: &[u8],
+    sheets: &[f64],
+    used: &[u16],
+    s: Settings,
+    col: &mut [f64],
+)
+    ghost { List Star }
+    requires { λ ss. ⌜ sightsAt (now pier) (now sheets) (now used) ≡ ss ⌝ }
+    requires { λ _. ⌜ Seen (now pier) (now sheets) (now used) × (length (now col) ≡ 2 * length (now used)) ⌝ }
+    ensures { λ ss _. ⌜ now (col .exit) ≡ pairs (λ x. harmonicJacobian result (evaluate (x .sheet) components) (pointAt s x)) ss ⌝ }
+{
+    for r in 0..used.len() {
+        let i = sequence::index(used[r]);
+        let p = harmonic_at(result, components, pier, sheets, s, i);
+        col[2 * r] = p.dh;
+        col[2 * r + 1] = p.dd;
+    }
+}
+
+// That of any term.
+fn fill_column(term: Term, pier: &[u8], sheets: &[f64], used: &[u16], s: Settings, col: &mut [f64])
+    ghost { List Star }
+    requires { λ ss. ⌜ sightsAt (now pier) (now sheets) (now used) ≡ ss ⌝ }
+    requires { λ _. ⌜ Seen (now pier) (now sheets) (now used) × (length (now col) ≡ 2 * length (now used)) ⌝ }
+    ensures { λ ss _. ⌜ now (col .exit) ≡ column s ss term ⌝ }
+{
+    let kind = term.kind;
+    let components = term.components;
+    match kind {
+        TermKind::Equatorial(t) => fill_equatorial(t, pier, sheets, used, s, col),
+        TermKind::Harmonic(result) => {
+            fill_harmonic(result, components, pier, sheets, used, s, col)
+        }
+    }
+}
+
+// The same with the hour-angle rows times cos dec.
+fn fill_sky_column(
+    term: Term,
+    pier: &[u8],
+    sheets: &[f64],
+    used: &[u16],
+    s: Settings,
+    col: &mut [f64],
+)
+    ghost { List Star }
+    requires { λ ss. ⌜ sightsAt (now pier) (now sheets) (now used) ≡ ss ⌝ }
+    requires { λ _. ⌜ Seen (now pier) (now sheets) (now used) × (length (now col) ≡ 2 * length (now used)) ⌝ }
+    ensures { λ ss _. ⌜ now (col .exit) ≡ skyColumn s ss term ⌝ }
+{
+    fill_column(term, pier, sheets, used, s, col);
+    scale_ha_rows(sheets, pier.len(), used, col);
 }
 
 // ---- numbers of one slice, by their places
@@ -181,6 +294,83 @@ pub fn subtract_from(w: &mut [f64], x: usize, y: usize, n: usize)
 {
     for k in 0..n {
         w[x + k] = w[y + k] - w[x + k];
+    }
+}
+
+// ---- the design matrix: the free terms' columns on the sky, weighed by the residuals that lie at 6·n
+
+// The column of a term, at x.
+fn weighed_column(
+    term: Term,
+    pier: &[u8],
+    sheets: &[f64],
+    used: &[u16],
+    s: Settings,
+    k: f64,
+    w: &mut [f64],
+    x: usize,
+)
+    ghost { List Star }
+    requires { λ ss. ⌜ sightsAt (now pier) (now sheets) (now used) ≡ ss ⌝ }
+    requires { λ _. ⌜ Seen (now pier) (now sheets) (now used) × Apart x (2 * length (now used)) (6 * length (now used))
+        × (x + 2 * length (now used) ≤ length (now w))
+        × (8 * length (now used) ≤ length (now w)) ⌝ }
+    ensures filled { λ ss _. ⌜ part (now (w .exit)) x (2 * length (now (used .entry)))
+        ≡ weighing k (part (now (w .entry)) (6 * length (now (used .entry))) (2 * length (now (used .entry)))) (skyColumn s ss term) ⌝ }
+    ensures only { λ _ _. ⌜ Only x (2 * length (now (used .entry))) (now (w .entry)) (now (w .exit)) ⌝ }
+{
+    let n = used.len();
+    let rows = 2 * n;
+    fill_sky_column(term, pier, sheets, used, s, &mut w[x..x + rows]);
+    weigh(w, x, 6 * n, rows, k);
+}
+
+// Column j: a design that is filled up to it becomes one that is filled up to the next.
+fn design_column(
+    names: &[u8],
+    free: &[u16],
+    pier: &[u8],
+    sheets: &[f64],
+    used: &[u16],
+    s: Settings,
+    k: f64,
+    w: &mut [f64],
+    c: usize,
+    h: usize,
+    j: usize,
+)
+    requires { ⌜ HasRoom (now names) (now free) (now pier) (now sheets) (now used) c h (now w) × (j < length (now free)) ⌝ }
+    ensures { λ _. ⌜ FillsColumn (matrixOf (now (names .entry)) (now (free .entry)) (now (pier .entry)) (now (sheets .entry)) (now (used .entry)) s k)
+        c h j (now (w .entry)) (now (w .exit)) ⌝ }
+{
+    let rows = 2 * used.len();
+    let below = h - rows;
+    let x = c + j * h;
+    let t = term_at(names, sequence::index(free[j]));
+    weighed_column(t, pier, sheets, used, s, k, w, x);
+    let z = x + rows;
+    sequence::fill(&mut w[z..z + below], 0.0);
+}
+
+// The whole design, from c on in columns of h numbers: term by term, in the order of the free terms.
+pub fn build_design_matrix(
+    names: &[u8],
+    free: &[u16],
+    pier: &[u8],
+    sheets: &[f64],
+    used: &[u16],
+    s: Settings,
+    k: f64,
+    w: &mut [f64],
+    c: usize,
+    h: usize,
+)
+    requires { ⌜ HasRoom (now names) (now free) (now pier) (now sheets) (now used) c h (now w) ⌝ }
+    ensures { λ _. ⌜ FilledUpTo (matrixOf (now (names .entry)) (now (free .entry)) (now (pier .entry)) (now (sheets .entry)) (now (used .entry)) s k
+        (now (w .entry))) c h (length (now (free .entry))) (now (w .entry)) (now (w .exit)) ⌝ }
+{
+    for j in 0..free.len() {
+        design_column(names, free, pier, sheets, used, s, k, w, c, h, j);
     }
 }
 
@@ -315,34 +505,6 @@ pub fn predict(
     }
 }
 
-// ---- the free terms' columns on the sky, weighed by the residuals that lie at 6·n
-
-// That of a term, at x.
-fn weighed_column(
-    term: Term,
-    pier: &[u8],
-    sheets: &[f64],
-    used: &[u16],
-    s: Settings,
-    k: f64,
-    w: &mut [f64],
-    x: usize,
-)
-    ghost { List Star }
-    requires { λ ss. ⌜ sightsAt (now pier) (now sheets) (now used) ≡ ss ⌝ }
-    requires { λ _. ⌜ Seen (now pier) (now sheets) (now used) × Apart x (2 * length (now used)) (6 * length (now used))
-        × (x + 2 * length (now used) ≤ length (now w))
-        × (8 * length (now used) ≤ length (now w)) ⌝ }
-    ensures filled { λ ss _. ⌜ part (now (w .exit)) x (2 * length (now (used .entry)))
-        ≡ weighing k (part (now (w .entry)) (6 * length (now (used .entry))) (2 * length (now (used .entry)))) (skyColumn s ss term) ⌝ }
-    ensures only { λ _ _. ⌜ Only x (2 * length (now (used .entry))) (now (w .entry)) (now (w .exit)) ⌝ }
-{
-    let n = used.len();
-    let rows = 2 * n;
-    fill_sky_column(term, pier, sheets, used, s, &mut w[x..x + rows]);
-    weigh(w, x, 6 * n, rows, k);
-}
-
 // At 2·n, the product of the free columns with x.
 pub fn free_product(
     names: &[u8],
@@ -370,39 +532,5 @@ pub fn free_product(
         let t = term_at(names, sequence::index(free[i]));
         weighed_column(t, pier, sheets, used, s, k, v, 0);
         add_scaled(v, 0, rows, rows, x[i]);
-    }
-}
-
-// From c on, the free columns, of h numbers each, with zeros below their rows.
-pub fn free_columns(
-    names: &[u8],
-    free: &[u16],
-    pier: &[u8],
-    sheets: &[f64],
-    used: &[u16],
-    s: Settings,
-    k: f64,
-    w: &mut [f64],
-    c: usize,
-    h: usize,
-)
-    ghost { List Star }
-    requires { λ ss. ⌜ sightsAt (now pier) (now sheets) (now used) ≡ ss ⌝ }
-    requires { λ _. ⌜ Seen (now pier) (now sheets) (now used) × (length (now free) ≤ maxTerms) × Named (now names) (now free) × (2 * length (now used) ≤ h)
-        × (h ≤ 4096) × (8 * length (now used) ≤ c) × (c + length (now free) * h ≤ length (now w)) ⌝ }
-    ensures filled { λ ss _. ⌜ part (now (w .exit)) c (length (now (free .entry)) * h)
-        ≡ stacked h (map
-        (weighedAt k (part (now (w .entry)) (6 * length (now (used .entry))) (2 * length (now (used .entry)))) s ss (now (names .entry)))
-        (now (free .entry))) ⌝ }
-    ensures only { λ _ _. ⌜ Only c (length (now (free .entry)) * h) (now (w .entry)) (now (w .exit)) ⌝ }
-{
-    let rows = 2 * used.len();
-    let below = h - rows;
-    for i in 0..free.len() {
-        let x = c + i * h;
-        let t = term_at(names, sequence::index(free[i]));
-        weighed_column(t, pier, sheets, used, s, k, w, x);
-        let z = x + rows;
-        sequence::fill(&mut w[z..z + below], 0.0);
     }
 }

@@ -1,1 +1,2 @@
 pub mod Zenith
+pub mod Codes

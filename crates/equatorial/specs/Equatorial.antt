@@ -1,6 +1,8 @@
 -- The Jacobians of the equatorial terms, from docs/SCOPE.md 4.4 and terms/equatorial.rs, in binary64 and in the source's order of operations. Definitions only.
 use Prim.Native.Nat.{ℕ, zero, suc, _-_}
 use mathlib.Core.Bool.{Bool, cond}
+use mathlib.Core.List.{List, [], _∷_}
+use lib.ListN.{getD}
 use lib.Ieee.{Float, binary64, ofBits, neg, lt}
 use Rattle.float.specs.Float.{_⊕_, _⊖_, _⊗_, _⊘_, #0, #1, abs}
 use Rattle.sqrt.specs.Sqrt.{sqrt}
@@ -9,6 +11,52 @@ use Rattle.observation.specs.declared.Point.{Point}
 use Rattle.observation.specs.declared.Pair.{Pair}
 use Rattle.equatorial.specs.declared.EquatorialTerm.{EquatorialTerm}
 use Rattle.equatorial.specs.declared.EquatorialTerm.the-variants.{IH, ID, CH, NP, MA, ME, TF, TX, TXN, DAF, FO, HCES, HCEC, DCES, DCEC}
+
+-- ---- the kinds by number
+
+-- from 0 in the order of `EquatorialTerm`
+abbrev pub codeOf : EquatorialTerm → ℕ
+codeOf IH = 0
+codeOf ID = 1
+codeOf CH = 2
+codeOf NP = 3
+codeOf MA = 4
+codeOf ME = 5
+codeOf TF = 6
+codeOf TX = 7
+codeOf (TXN n) = 8
+codeOf DAF = 9
+codeOf FO = 10
+codeOf HCES = 11
+codeOf HCEC = 12
+codeOf DCES = 13
+codeOf DCEC = 14
+
+-- TXN's own number
+abbrev pub txnNumber : EquatorialTerm → ℕ
+txnNumber IH = 0
+txnNumber ID = 0
+txnNumber CH = 0
+txnNumber NP = 0
+txnNumber MA = 0
+txnNumber ME = 0
+txnNumber TF = 0
+txnNumber TX = 0
+txnNumber (TXN n) = n
+txnNumber DAF = 0
+txnNumber FO = 0
+txnNumber HCES = 0
+txnNumber HCEC = 0
+txnNumber DCES = 0
+txnNumber DCEC = 0
+
+-- in that order, but for the last; n is TXN's own number
+abbrev pub kinds : ℕ → List EquatorialTerm
+kinds n = IH ∷ ID ∷ CH ∷ NP ∷ MA ∷ ME ∷ TF ∷ TX ∷ TXN n ∷ DAF ∷ FO ∷ HCES ∷ HCEC ∷ DCES ∷ []
+
+-- the kind with a code; from 14 on DCEC
+abbrev pub kindOf : ℕ → ℕ → EquatorialTerm
+kindOf code n = getD (kinds n) code DCEC
 
 -- ---- tube flexure
 

@@ -3,7 +3,8 @@
 ghost use mathlib.Core.Path.{_≡_};
 ghost use Prim.Native.Nat.{_-_};
 ghost use Rattle.observation.specs.Observation.{pairOf};
-ghost use Rattle.equatorial.specs.Equatorial.{equatorialJacobian, sinAlt, flexureH, flexureD, tfOf, txOf, txnOf, dafOf, power, atLeastZero};
+ghost use Rattle.equatorial.specs.Equatorial.{codeOf, txnNumber, kindOf, equatorialJacobian};
+ghost use Rattle.equatorial.specs.Equatorial.{sinAlt, flexureH, flexureD, tfOf, txOf, txnOf, dafOf, power, atLeastZero};
 use observation::Pair;
 use observation::Point;
 
@@ -26,26 +27,84 @@ pub enum EquatorialTerm {
 }
 
 impl EquatorialTerm {
-    pub fn jacobian_equatorial(self, p: Point) -> Pair
-        ensures { λ r. ⌜ r ≡ equatorialJacobian self p ⌝ }
+    // Its number, from 0 in the order above.
+    pub fn code(self) -> u8
+        ensures { λ r. ⌜ r ≡ codeOf self ⌝ }
     {
         match self {
-            EquatorialTerm::IH => pair(-1.0, 0.0),
-            EquatorialTerm::ID => pair(0.0, -p.pier),
-            EquatorialTerm::CH => pair(-p.pier / p.cos_dec, 0.0),
-            EquatorialTerm::NP => pair(-p.pier * p.tan_dec, 0.0),
-            EquatorialTerm::MA => pair(p.cos_h * p.tan_dec, -p.sin_h),
-            EquatorialTerm::ME => pair(-p.sin_h * p.tan_dec, -p.cos_h),
-            EquatorialTerm::TF => tf(p),
-            EquatorialTerm::TX => tx(p),
-            EquatorialTerm::TXN(n) => txn(p, n),
-            EquatorialTerm::DAF => daf(p),
-            EquatorialTerm::FO => pair(0.0, p.cos_h),
-            EquatorialTerm::HCES => pair(p.sin_h, 0.0),
-            EquatorialTerm::HCEC => pair(p.cos_h, 0.0),
-            EquatorialTerm::DCES => pair(0.0, p.sin_dec),
-            EquatorialTerm::DCEC => pair(0.0, p.cos_dec),
+            EquatorialTerm::IH => 0,
+            EquatorialTerm::ID => 1,
+            EquatorialTerm::CH => 2,
+            EquatorialTerm::NP => 3,
+            EquatorialTerm::MA => 4,
+            EquatorialTerm::ME => 5,
+            EquatorialTerm::TF => 6,
+            EquatorialTerm::TX => 7,
+            EquatorialTerm::TXN(_) => 8,
+            EquatorialTerm::DAF => 9,
+            EquatorialTerm::FO => 10,
+            EquatorialTerm::HCES => 11,
+            EquatorialTerm::HCEC => 12,
+            EquatorialTerm::DCES => 13,
+            EquatorialTerm::DCEC => 14,
         }
+    }
+
+    // TXN's own number; 0 of any other.
+    pub fn txn_number(self) -> u8
+        ensures { λ r. ⌜ r ≡ txnNumber self ⌝ }
+    {
+        match self {
+            EquatorialTerm::IH => 0,
+            EquatorialTerm::ID => 0,
+            EquatorialTerm::CH => 0,
+            EquatorialTerm::NP => 0,
+            EquatorialTerm::MA => 0,
+            EquatorialTerm::ME => 0,
+            EquatorialTerm::TF => 0,
+            EquatorialTerm::TX => 0,
+            EquatorialTerm::TXN(n) => n,
+            EquatorialTerm::DAF => 0,
+            EquatorialTerm::FO => 0,
+            EquatorialTerm::HCES => 0,
+            EquatorialTerm::HCEC => 0,
+            EquatorialTerm::DCES => 0,
+            EquatorialTerm::DCEC => 0,
+        }
+    }
+}
+
+// The Jacobian of the term with a code; n is TXN's own number. Where the code is a literal in the call, the compiler keeps that term's arm alone.
+pub fn jacobian_equatorial(code: u8, n: u8, p: Point) -> Pair
+    ensures { λ r. ⌜ r ≡ equatorialJacobian (kindOf code n) p ⌝ }
+{
+    match code {
+        // IH
+        0 => pair(-1.0, 0.0),
+        // ID
+        1 => pair(0.0, -p.pier),
+        // CH
+        2 => pair(-p.pier / p.cos_dec, 0.0),
+        // NP
+        3 => pair(-p.pier * p.tan_dec, 0.0),
+        // MA
+        4 => pair(p.cos_h * p.tan_dec, -p.sin_h),
+        // ME
+        5 => pair(-p.sin_h * p.tan_dec, -p.cos_h),
+        6 => tf(p),
+        7 => tx(p),
+        8 => txn(p, n),
+        9 => daf(p),
+        // FO
+        10 => pair(0.0, p.cos_h),
+        // HCES
+        11 => pair(p.sin_h, 0.0),
+        // HCEC
+        12 => pair(p.cos_h, 0.0),
+        // DCES
+        13 => pair(0.0, p.sin_dec),
+        // DCEC
+        _ => pair(0.0, p.cos_dec),
     }
 }
 

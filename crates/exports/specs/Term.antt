@@ -5,8 +5,7 @@ use mathlib.Core.List.{List, map}
 use lib.Dec.{eqb}
 use lib.ListN.{replicate}
 use Rattle.limits.specs.Limits.{slotBytes}
-use Rattle.equatorial.specs.declared.EquatorialTerm.{EquatorialTerm}
-use Rattle.equatorial.specs.declared.EquatorialTerm.the-variants.{IH, ID, CH, NP, MA, ME, TF, TX, TXN, DAF, FO, HCES, HCEC, DCES, DCEC}
+use Rattle.equatorial.specs.Equatorial.{codeOf, txnNumber}
 use Rattle.harmonic.specs.declared.TrigFunc.{TrigFunc}
 use Rattle.harmonic.specs.declared.Coordinate.{Coordinate}
 use Rattle.harmonic.specs.declared.ResultType.{ResultType}
@@ -20,41 +19,6 @@ use Rattle.exports.specs.declared.term.ComponentCodes.{ComponentCodes}
 
 -- ---- the kind of a term
 
-abbrev pub equatorialCode : EquatorialTerm → ℕ
-equatorialCode IH = 0
-equatorialCode ID = 1
-equatorialCode CH = 2
-equatorialCode NP = 3
-equatorialCode MA = 4
-equatorialCode ME = 5
-equatorialCode TF = 6
-equatorialCode TX = 7
-equatorialCode (TXN n) = 8
-equatorialCode DAF = 9
-equatorialCode FO = 10
-equatorialCode HCES = 11
-equatorialCode HCEC = 12
-equatorialCode DCES = 13
-equatorialCode DCEC = 14
-
--- TXN's own number
-abbrev pub txnNumber : EquatorialTerm → ℕ
-txnNumber IH = 0
-txnNumber ID = 0
-txnNumber CH = 0
-txnNumber NP = 0
-txnNumber MA = 0
-txnNumber ME = 0
-txnNumber TF = 0
-txnNumber TX = 0
-txnNumber (TXN n) = n
-txnNumber DAF = 0
-txnNumber FO = 0
-txnNumber HCES = 0
-txnNumber HCEC = 0
-txnNumber DCES = 0
-txnNumber DCEC = 0
-
 abbrev pub resultCode : ResultType → ℕ
 resultCode ResultType.H = 0
 resultCode ResultType.D = 1
@@ -66,7 +30,7 @@ resultCode ResultType.Z = 6
 resultCode ResultType.S = 7
 
 abbrev pub kindCode : TermKind → ℕ
-kindCode (Equatorial t) = equatorialCode t
+kindCode (Equatorial t) = codeOf t
 kindCode (Harmonic t) = 15
 
 abbrev pub kindNumber : TermKind → ℕ

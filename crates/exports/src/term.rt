@@ -2,9 +2,8 @@
 
 ghost use mathlib.Core.Path.{_≡_};
 ghost use Prim.Native.Nat.{_≤_};
-ghost use Rattle.exports.specs.Term.{equatorialCode, txnNumber, resultCode, kindCode, kindNumber};
+ghost use Rattle.exports.specs.Term.{resultCode, kindCode, kindNumber};
 ghost use Rattle.exports.specs.Term.{kindResult, functionCode, coordinateCode, componentCodes, noTerm, termAnswer};
-use equatorial::EquatorialTerm;
 use harmonic::Coordinate;
 use harmonic::HarmonicComponent;
 use harmonic::ResultType;
@@ -37,50 +36,6 @@ pub struct ComponentCodes {
     pub frequencies: [u8; 7],
 }
 
-fn equatorial_code(t: EquatorialTerm) -> u8
-    ensures { λ r. ⌜ r ≡ equatorialCode t ⌝ }
-{
-    match t {
-        EquatorialTerm::IH => 0,
-        EquatorialTerm::ID => 1,
-        EquatorialTerm::CH => 2,
-        EquatorialTerm::NP => 3,
-        EquatorialTerm::MA => 4,
-        EquatorialTerm::ME => 5,
-        EquatorialTerm::TF => 6,
-        EquatorialTerm::TX => 7,
-        EquatorialTerm::TXN(_) => 8,
-        EquatorialTerm::DAF => 9,
-        EquatorialTerm::FO => 10,
-        EquatorialTerm::HCES => 11,
-        EquatorialTerm::HCEC => 12,
-        EquatorialTerm::DCES => 13,
-        EquatorialTerm::DCEC => 14,
-    }
-}
-
-fn txn_number(t: EquatorialTerm) -> u8
-    ensures { λ r. ⌜ r ≡ txnNumber t ⌝ }
-{
-    match t {
-        EquatorialTerm::IH => 0,
-        EquatorialTerm::ID => 0,
-        EquatorialTerm::CH => 0,
-        EquatorialTerm::NP => 0,
-        EquatorialTerm::MA => 0,
-        EquatorialTerm::ME => 0,
-        EquatorialTerm::TF => 0,
-        EquatorialTerm::TX => 0,
-        EquatorialTerm::TXN(n) => n,
-        EquatorialTerm::DAF => 0,
-        EquatorialTerm::FO => 0,
-        EquatorialTerm::HCES => 0,
-        EquatorialTerm::HCEC => 0,
-        EquatorialTerm::DCES => 0,
-        EquatorialTerm::DCEC => 0,
-    }
-}
-
 fn result_code(t: ResultType) -> u8
     ensures { λ r. ⌜ r ≡ resultCode t ⌝ }
 {
@@ -100,7 +55,7 @@ fn kind_code(k: TermKind) -> u8
     ensures { λ r. ⌜ r ≡ kindCode k ⌝ }
 {
     match k {
-        TermKind::Equatorial(t) => equatorial_code(t),
+        TermKind::Equatorial(t) => t.code(),
         TermKind::Harmonic(_) => 15,
     }
 }
@@ -109,7 +64,7 @@ fn number_of(k: TermKind) -> u8
     ensures { λ r. ⌜ r ≡ kindNumber k ⌝ }
 {
     match k {
-        TermKind::Equatorial(t) => txn_number(t),
+        TermKind::Equatorial(t) => t.txn_number(),
         TermKind::Harmonic(_) => 0,
     }
 }

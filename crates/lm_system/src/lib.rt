@@ -133,7 +133,7 @@ pub fn lm_step(
     let b = 4 * n;
     let c = 8 * n;
     weighed_residuals(sheets, dh.len(), used, k, &mut w[rows..c]);
-    design::free_columns(names, free, pier, sheets, used, s, k, w, c, h);
+    design::build_design_matrix(names, free, pier, sheets, used, s, k, w, c, h);
     linalg::solve_damped(w, c, h, rows, free.len(), b, lambda, s.fit_tol)
 }
 

@@ -2,21 +2,24 @@
 use Prim.Native.Nat.{ℕ, _+_, _*_, _≤_}
 use native.Mathlib.Omega.{arith}
 use mathlib.Core.Path.{_≡_, refl, sym, ap}
-use mathlib.Core.List.{List, [], _++_}
+use mathlib.Core.List.{List, [], _++_, map}
 use lib.ListN.{length, take, drop}
 use lib.Seq.{length-take-le, take-at}
 use lib.Ieee.{Float, lt, ofBits}
 use Rattle.limits.specs.Limits.{maxTerms}
 use Rattle.float.specs.Float.{#0}
 use Rattle.solver.specs.Call.{FitInputs}
-use Rattle.design.specs.Design.{RunInputs, runInputs, runFrom, upTo, collectIndices, runInputsOf, sightsAt, skyOf, weighing, weighedAt}
-use Rattle.design.specs.Counted.{Seen, Named, Counted}
+use Rattle.sequence.specs.Sequence.{Only}
+use Rattle.design.specs.Design.{RunInputs, runInputs, runFrom, upTo, collectIndices, runInputsOf, sightsAt, skyOf, weighing, weighedAt, stacked}
+use Rattle.design.specs.Counted.{Counted}
+use Rattle.design.specs.Matrix.{matrixOf, FilledUpTo, HasRoom}
 use Rattle.design.proofs.Indices.{up-to-length}
+use Rattle.design.proofs.Matrix.{design-stacked}
 use Rattle.design.proofs.Runs.{withTerms, count-is, sky-columns-are, seen, named, free-room}
 use Rattle.stats.specs.declared.Sky.{Sky}
 use Rattle.stats.specs.Stats.{sumSqSky, skyOfSum, skyFrom}
 use Rattle.stats.proofs.Laws.{sum-sky-same}
-use Rattle.outcome.specs.Scratch.{countOf, heightIn, Fits}
+use Rattle.outcome.specs.Scratch.{countOf, heightIn, skyIn, columnsIn, Fits}
 
 -- the front of scratch, for a run that has its number of terms from the set
 pub fits-front : (l : RunInputs) (m need : ℕ) (w : List Float) → m ≡ l .m → Counted l → 8 * countOf l + l .m * heightIn l ≤ need → need ≤ length w
@@ -29,14 +32,20 @@ fits-free l w f =
     let c = f .counted in
     (omega (arith, c .free-few, c .terms), omega (arith, free-room l c (heightIn l), f .room))
 
--- what `free_columns` requires, of a list v as long
-pub columns-ready : (l : RunInputs) (w v : List Float) → Fits l w → length v ≡ length w
-    → Seen (l .pier) (l .sheets) (l .used) × (length (l .free) ≤ maxTerms) × Named (l .names) (l .free) × (2 * countOf l ≤ heightIn l) × (heightIn l ≤ 4096)
-    × (8 * countOf l ≤ 8 * countOf l) × (8 * countOf l + length (l .free) * heightIn l ≤ length v)
-columns-ready l w v f e =
-    let c = f .counted in
-    let h : heightIn l ≤ 4096 = omega (arith, c .terms, c .stars, c .used-few) in
-    (seen l c, fits-free l w f .0, named l c, omega arith, h, omega arith, rw e (fits-free l w f .1))
+-- of a list v as long: what `build_design_matrix` requires, and what it leaves as the solver reads it
+module _ (l : RunInputs) (w v : List Float) (f : Fits l w) (e : length v ≡ length w) where
+  pub columns-ready : HasRoom (l .names) (l .free) (l .pier) (l .sheets) (l .used) (8 * countOf l) (heightIn l) v
+  columns-ready =
+      let c = f .counted in
+      record { named = named l c; seen = seen l c; rows-fit = omega arith; behind = omega arith; columns-fit = rw e (fits-free l w f .1) }
+
+  pub columns-built : (k : Float) (v′ : List Float)
+      → FilledUpTo (matrixOf (l .names) (l .free) (l .pier) (l .sheets) (l .used) (l .settings) k v) (8 * countOf l) (heightIn l) (length (l .free)) v v′
+      → (columnsIn l v′
+      ≡ stacked (heightIn l) (map (weighedAt k (skyIn l v) (l .settings) (sightsAt (l .pier) (l .sheets) (l .used)) (l .names)) (l .free)))
+      × Only (8 * countOf l) (length (l .free) * heightIn l) v v′
+  columns-built k v′ p =
+      (design-stacked (l .names) (l .free) (l .pier) (l .sheets) (l .used) (l .settings) k (8 * countOf l) (heightIn l) v v′ columns-ready p, p .outside)
 
 module _ (l : RunInputs) where
   pub weighed-are : (k : Float) (b : List Float)

@@ -1,4 +1,4 @@
--- Tests: conjunctions, answers that are negated, and loops that test in order and stop at the first that fails or holds. Assumes nothing.
+-- Tests: conjunctions, answers that are negated, and loops that test in order, to the first that fails or holds, or to the end. Assumes nothing.
 use Prim.Native.Nat.{ℕ, zero, suc, _+_, _≤_, _<_}
 use native.Mathlib.Nat.{le-antisymm}
 use native.Mathlib.Omega.{arith}
@@ -83,6 +83,37 @@ module _ {A : Type 0} {p : A → Bool} {s : List A} where
 
   pub test-end : {e i : ℕ} → Testing p s e i → e ≤ i → true ≡ every p s
   test-end {e} {i} t h = every-end p s i (omega arith) (t .left)
+
+-- the same where the loop goes on to the end, and `all` says whether each that it has passed holds
+pub record Tested {A : Type 0} (p : A → Bool) (s : List A) (e i : ℕ) (all : Bool) : Type 0 where
+  pub end : e ≡ length s
+  pub within : i ≤ length s
+  pub left : every p s ≡ (all && every p (drop i s))
+
+and-false : (a : Bool) → (a && false) ≡ false
+and-false true = refl
+and-false false = refl
+
+and-true : (a : Bool) → (a && true) ≡ a
+and-true true = refl
+and-true false = refl
+
+module _ {A : Type 0} {p : A → Bool} {s : List A} where
+  pub tested-start : Tested p s (length s) 0 true
+  tested-start = record { end = refl; within = omega arith; left = refl }
+
+  module _ {e i : ℕ} {all : Bool} (d : A) (t : Tested p s e i all) (h : i < e) where
+    rest : (b : Bool) → p (getD s i d) ≡ b → every p s ≡ (all && (b && every p (drop (i + 1) s)))
+    rest b y = rw add-one (t .left ∙ ap (λ r. all && r) (next p s i d (omega arith) ∙ ap (λ x. x && every p (drop (suc i) s)) y))
+
+    pub tested-holds : p (getD s i d) ≡ true → Tested p s e (i + 1) all
+    tested-holds y = record { end = t .end; within = omega arith; left = rest true y }
+
+    pub tested-fails : p (getD s i d) ≡ false → Tested p s e (i + 1) false
+    tested-fails n = record { end = t .end; within = omega arith; left = rest false n ∙ and-false all }
+
+  pub tested-end : {e i : ℕ} {all : Bool} → Tested p s e i all → e ≤ i → all ≡ every p s
+  tested-end {e} {i} {all} t h = let past : length s ≤ i = omega arith in sym (t .left ∙ ap (λ l. all && every p l) (drop-of-length-le s past) ∙ and-true all)
 
 -- ---- a test of some index
 

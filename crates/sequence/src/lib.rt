@@ -6,16 +6,17 @@ ghost use lib.ListN.{length, replicate};
 ghost use Rattle.float.specs.Float.{isFinite};
 ghost use Rattle.sequence.specs.Sequence.{every, dot};
 
-// Whether every number of s is finite.
+// Whether every number of s is finite. It goes on to the end, so that the compiler can test two at once.
 pub fn all_finite(s: &[f64]) -> bool
     ensures { λ r. ⌜ r ≡ every isFinite (now (s .entry)) ⌝ }
 {
+    let mut all = true;
     for i in 0..s.len() {
         if !float::is_finite(s[i]) {
-            return false;
+            all = false;
         }
     }
-    true
+    all
 }
 
 // Every number of s becomes x.

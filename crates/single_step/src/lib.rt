@@ -54,7 +54,7 @@ fn solve(
     design::build_sky_residuals(dh, dd, sheets, used, &mut w[rows..rows + rows]);
     design::subtract_all_contributions(names, pier, sheets, used, s, coefficients, &mut w[..b]);
     design::copy(w, rows, b, rows);
-    design::free_columns(names, free, pier, sheets, used, s, 0.0, w, c, h);
+    design::build_design_matrix(names, free, pier, sheets, used, s, 0.0, w, c, h);
     linalg::solve_and_covariance(w, c, h, rows, free.len(), b, rows, s.fit_tol)
 }
 

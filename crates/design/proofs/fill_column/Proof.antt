@@ -1,70 +1,26 @@
--- `design::fill_column` meets its contract. The invariant: the rows of the first r stars are filled. Assumes nothing.
-use Prim.Native.Nat.{_≤_, _-_, _*_}
-use mathlib.Core.Path.{_≡_, refl, _∙_}
-use mathlib.Core.List.{[]}
-use lib.ListN.{length, length-set}
-use lib.Ieee.{nan}
-use native.Mathlib.Omega.{arith}
-use Rattle.design.specs.Design.{starAt, sightsAt, column}
-use Rattle.sequence.proofs.Partway.{Partway, start, pair, end}
-use Rattle.design.proofs.Rows.{count, hour, dec}
+-- `design::fill_column` meets its contract. Assumes nothing.
+use borrow.Author.Needs.{needs}
+use Rattle.design.specs.Design.{column}
 use Rattle.design.proofs.fill_column.Statement.{statement}
 use Rattle.design.proofs.fill_column.Tie as tie
 
-abbrev Inv-loop : tie.InvT-loop
-Inv-loop term pier sheets used s col₀ r₀ r-end col r =
-    (r-end ≡ length used) × (r ≤ r-end) × Partway col₀ (column s (sightsAt pier sheets used) term) (2 * r) col
-
-abbrev μ-loop : tie.MeasureT-loop
-μ-loop term pier sheets used s col₀ r₀ r-end col r = r-end - r
-
-loop-holds : tie.Need-loop-holds Inv-loop μ-loop
+returns : tie.Need-returns
 unfolding column
-loop-holds c =
-    let a = c .before .before .before .before .args in
-    (refl, omega arith, start _ _ (count (starAt [] [] (a .pier .now) (a .sheets .now)) _ _ (a .used .now) ∙ omega arith))
+returns c = rw (c .before .before .before .before .before .kind .given .1) (c .before .before .fill-equatorial .ensures)
 
-jacobian-at-requires : tie.Need-jacobian-at-requires Inv-loop μ-loop
-jacobian-at-requires c κs =
-    let p = c .before .before .before in
-    omega (arith, p .before .before .before .before .before .pre .0 .used-below (p .loop .r) (omega arith))
-
-loop-again : tie.Need-loop-again Inv-loop μ-loop
+returns-2 : tie.Need-returns-2
 unfolding column
-loop-again c =
-    let u = c .before .before .before .before in
-    let a = u .before .before .before .before .before .args in
-    let s = starAt [] [] (a .pier .now) (a .sheets .now) in
-    let n = a .used .now in
-    let i = c .before .index .ensures in
-    let p = c .jacobian-at .ensures in (
-      refl,
-      omega arith,
-      pair _ _ (u .loop .r) (u .loop .col) _ _ nan (omega arith) (u .loop .inv .2)
-          (rw (p, i) (hour s _ _ n (u .loop .r) (omega arith)))
-          (rw (p, i) (dec s _ _ n (u .loop .r) (omega arith))),
-    )
+returns-2 c = rw (c .before .before .before .before .before .kind2 .given .1) (c .before .before .fill-harmonic .ensures)
 
 pub fill-column-spec : {M : Type 1} → statement M
 fill-column-spec =
     tie.close
     (tie.spec
-    Inv-loop
-    μ-loop
-    loop-holds
-    (λ c. omega arith)
-    (λ c. omega arith)
-    (λ c κs. omega arith)
-    jacobian-at-requires
-    (λ c. omega arith)
-    (λ c. omega arith)
-    (λ c. omega arith)
-    (λ c. omega arith)
-    (λ c. omega arith)
-    (λ c. omega arith)
-    (λ c. simp length-set (omega arith))
-    (λ c. omega arith)
-    (λ c. omega arith)
-    loop-again
-    (λ c. omega arith)
-    (λ c. end _ _ _ _ (omega arith) (c .before .loop .inv .2)))
+    (λ c. search needs)
+    (λ c κs. search needs)
+    (λ c. search needs)
+    (λ c κs. search needs)
+    (λ c. search needs)
+    returns
+    (λ c. search needs)
+    returns-2)

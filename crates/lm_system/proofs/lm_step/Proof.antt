@@ -1,8 +1,12 @@
 -- `lm_system::lm_step` meets its contract. Assumes nothing.
 use Prim.Native.Nat.{_+_, _*_}
 use native.Mathlib.Omega.{arith}
+use mathlib.Core.Path.{_≡_}
+use mathlib.Core.List.{List}
 use lib.ListN.{length}
-use Rattle.design.proofs.Runs.{seen, named, free-room}
+use lib.Ieee.{Float}
+use Rattle.design.proofs.Runs.{free-room}
+use Rattle.outcome.proofs.Runs.{columns-ready, columns-built}
 use Rattle.lm_system.proofs.Laws.{there, weighed-there, stepped}
 use Rattle.lm_system.proofs.lm_step.Statement.{statement}
 use Rattle.lm_system.proofs.lm_step.Tie as tie
@@ -12,12 +16,23 @@ weighed-residuals-requires c κs =
     let f = c .before .before .before .before .before .before .before .before .before .before .pre .0 in
     (f .counted .sheets-count, f .counted .used-below, omega (arith, f .counted .used-few, f .counted .stars), omega (arith, f .room))
 
-free-columns-requires : tie.Need-free-columns-requires
-free-columns-requires c κs =
-    let s = c .before .before .before .before .before .before .before .before .before .before .before .before .before .before in
-    let f = s .pre .0 in
-    let few = free-room _ (f .counted) (2 * length (s .args .used .now) + 2 * length (s .args .set .now)) in
-    (seen _ (f .counted), omega (arith, f .counted), named _ (f .counted), omega arith, omega (arith, f .counted), omega arith, omega (arith, few, f .room))
+-- ---- from each call back to the one before it
+
+abbrev start : tie.After-weighed-residuals → tie.Start
+start c = c .before .before .before .before .before .before .before .before .before .before .before
+
+-- w, when the part that was lent has come back
+abbrev left : tie.After-weighed-residuals → List Float
+left c = there (start c .pre .0 .counted) (start c .args .w .now) (c .weighed-residuals .last .1 .1 .1 .1 .0)
+
+-- which is as long as it was
+long : (c : tie.After-build-design-matrix-arg) → let weighed = c .before .before .before in length (left weighed) ≡ length (start weighed .args .w .now)
+long c = omega arith
+
+-- ---- the calls
+
+build-design-matrix-requires : tie.Need-build-design-matrix-requires
+build-design-matrix-requires c κs = let weighed = c .before .before .before in columns-ready _ _ (left weighed) (start weighed .pre .0) (long c)
 
 solve-damped-requires : tie.Need-solve-damped-requires
 solve-damped-requires c κs =
@@ -31,15 +46,15 @@ returns c =
     let solve = c .before .before in
     let columns = solve .before .before .before .before in
     let weighed = columns .before .before .before .before in
-    let s = weighed .before .before .before .before .before .before .before .before .before .before .before in
+    let s = start weighed in
     let a = s .args in
     let f = s .pre .0 in
     let ys = weighed .weighed-residuals .last .1 .1 .1 .1 .0 in
-    stepped (f .counted) (a .set .now) (there (f .counted) (a .w .now) ys) (columns .free-columns .last .1 .1 .1 .1 .1 .1 .1 .0) (solve .solve-damped .last .0)
+    stepped (f .counted) (a .set .now) (left weighed) (columns .build-design-matrix .last .1 .1 .1 .1 .1 .1 .1 .0) (solve .solve-damped .last .0)
     (a .k) (a .lambda) (solve .solve-damped .result)
     (weighed-there (f .counted) (a .set .now) (a .w .now) ys (a .k) (omega arith) (s .pre .1) (weighed .weighed-residuals .kept .1 .1 .1 .1 .0)
     (weighed .weighed-residuals .ensures))
-    (columns .free-columns .ensures) (solve .solve-damped .ensures)
+    (columns-built _ _ (left weighed) f (long (columns .before)) _ _ (columns .build-design-matrix .ensures)) (solve .solve-damped .ensures)
 
 pub lm-step-spec : {M : Type 1} → statement M
 lm-step-spec =
@@ -55,7 +70,7 @@ lm-step-spec =
     (λ c. omega arith)
     (λ c. omega arith)
     weighed-residuals-requires
-    free-columns-requires
+    build-design-matrix-requires
     solve-damped-requires
     (λ c. omega arith)
     returns)

@@ -9,7 +9,7 @@ use lib.Seq.{length-take-le}
 use Rattle.sequence.proofs.Only.{length-cut, back}
 use Rattle.design.proofs.Runs.{seen}
 use Rattle.outcome.proofs.Front.{front-size, Renewed}
-use Rattle.outcome.proofs.Runs.{columns-ready}
+use Rattle.outcome.proofs.Runs.{columns-ready, columns-built}
 use Rattle.single_step.proofs.Laws.{back-fits, copied-long, fitted-to, solver-ready, stepped}
 use Rattle.single_step.proofs.solve.Statement.{statement}
 use Rattle.single_step.proofs.solve.Tie as tie
@@ -74,8 +74,8 @@ long c =
     copied-long (s .args .w .now) (made y) (2 * n) (4 * n) (omega arith) (omega (arith, s .pre .room))
     (y .build-sky-residuals .kept .1 .1 .1 .1 .0) (back-again (subtracted c)) _ (c .copy .ensures)
 
-free-columns-requires : tie.Need-free-columns-requires
-free-columns-requires c κs =
+build-design-matrix-requires : tie.Need-build-design-matrix-requires
+build-design-matrix-requires c κs =
     let copy = c .before .before .before in
     columns-ready _ _ (copy .copy .last .0) (start (built (subtracted copy)) .pre) (long copy)
 
@@ -83,14 +83,14 @@ solve-and-covariance-requires : tie.Need-solve-and-covariance-requires
 solve-and-covariance-requires c κs =
     let cols = c .before .before .before in
     let copy = cols .before .before .before .before in
-    let cols-long = cols .free-columns .ensures .1 .long in
-    solver-ready _ _ (cols .free-columns .last .1 .1 .1 .1 .1 .1 .1 .0) (start (built (subtracted copy)) .pre) (cols-long ∙ long copy)
+    let cols-long = cols .build-design-matrix .ensures .outside .long in
+    solver-ready _ _ (cols .build-design-matrix .last .1 .1 .1 .1 .1 .1 .1 .0) (start (built (subtracted copy)) .pre) (cols-long ∙ long copy)
 
 same-length : tie.Need-same-length
 same-length c =
     let x = c .before .before in
     let cols = x .before .before .before .before in
-    x .solve-and-covariance .ensures .1 .long ∙ cols .free-columns .ensures .1 .long ∙ long (cols .before .before .before .before)
+    x .solve-and-covariance .ensures .1 .long ∙ cols .build-design-matrix .ensures .outside .long ∙ long (cols .before .before .before .before)
 
 returns : tie.Need-returns
 returns c =
@@ -103,7 +103,8 @@ returns c =
     let fit = fitted-to _ (s .args .coefficients .now) (s .args .w .now) (made y)
     (rest z) _ (s .pre) (y .build-sky-residuals .kept .1 .1 .1 .1 .0)
     (y .build-sky-residuals .ensures) (back-again z) (z .subtract-all-contributions .ensures) (copy .copy .ensures) in
-    stepped _ (s .args .coefficients .now) _ _ _ _ (s .pre .counted) fit (cols .free-columns .ensures .0) (cols .free-columns .ensures .1)
+    let built = columns-built _ _ (copy .copy .last .0) (s .pre) (long copy) _ _ (cols .build-design-matrix .ensures) in
+    stepped _ (s .args .coefficients .now) _ _ _ _ (s .pre .counted) fit (built .0) (built .1)
     (x .solve-and-covariance .ensures .0) (x .solve-and-covariance .ensures .1)
 
 pub solve-spec : {M : Type 1} → statement M
@@ -125,7 +126,7 @@ solve-spec =
     (λ c. front-size _ _ (lies (c .before .before .before)))
     subtract-all-contributions-requires
     (λ c κs. (omega arith, omega arith))
-    free-columns-requires
+    build-design-matrix-requires
     solve-and-covariance-requires
     same-length
     returns)
