@@ -33,6 +33,7 @@ fn assert_same(r: &FitAnswer, b: &Buffers, theirs: &FitResult, oracle: &Buffers)
         (r.iterations, r.converged),
         (report.iterations, report.converged)
     );
+    assert_eq!((r.sweeps, r.settled), (theirs.sweeps, theirs.settled));
     assert_eq!(
         bits(&[
             r.sky_rms,

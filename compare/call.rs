@@ -405,6 +405,8 @@ impl Fit {
             (self.mode != SINGLE && !report.converged, "not converged"),
             (report.iterations >= 100, "100 iterations or more"),
             (fit.rank_info.n_free < self.run.m(), "with fixed terms"),
+            (!fit.settled, "30 sweeps, not settled"),
+            (fit.sweeps == 30 && fit.settled, "30 sweeps, settled"),
         ])
     }
 }
@@ -412,8 +414,8 @@ impl Fit {
 fn check_answer(ours: &FitAnswer, theirs: &Result<FitResult, u8>) -> Checked<()> {
     let refusal = theirs.as_ref().err().copied().unwrap_or(0);
     check("refusal", ours.refusal, refusal)?;
-    let (floats, counts, converged) = match theirs {
-        Err(_) => ([0.0; 7], [0; 3], false),
+    let (floats, counts, words) = match theirs {
+        Err(_) => ([0.0; 7], [0; 4], [false; 2]),
         Ok(fit) => {
             let (rank, report) = (&fit.rank_info, &fit.iter_report);
             let floats = [
@@ -425,14 +427,16 @@ fn check_answer(ours: &FitAnswer, theirs: &Result<FitResult, u8>) -> Checked<()>
                 report.final_lambda,
                 report.final_step_norm,
             ];
-            let counts = [rank.n_free, rank.rank, report.iterations];
-            (floats, counts, report.converged)
+            let counts = [rank.n_free, rank.rank, report.iterations, fit.sweeps];
+            (floats, counts, [report.converged, fit.settled])
         }
     };
     check("n_free", ours.n_free, counts[0])?;
     check("rank", ours.rank, counts[1])?;
     check("iterations", ours.iterations, counts[2])?;
-    check("converged", ours.converged, converged)?;
+    check("sweeps", ours.sweeps, counts[3])?;
+    check("converged", ours.converged, words[0])?;
+    check("settled", ours.settled, words[1])?;
     let named = [
         ("sky_rms", ours.sky_rms),
         ("popn_sd", ours.popn_sd),

@@ -13,12 +13,14 @@ struct Expected {
     traits: Vec<&'static str>,
 }
 
-const OF_FITS: [&str; 5] = [
+const OF_FITS: [&str; 7] = [
     "accepted with tails",
     "refused with buffers to keep",
     "deficient",
     "not numbers",
     "with fixed terms",
+    "30 sweeps, not settled",
+    "30 sweeps, settled",
 ];
 const OF_ITERATED: [&str; 3] = ["converged", "not converged", "100 iterations or more"];
 

@@ -35,7 +35,7 @@ const fn iterated_only(name: &'static str, weight: usize, make: Make) -> Regime 
     }
 }
 
-pub const REGIMES: [Regime; 38] = [
+pub const REGIMES: [Regime; 40] = [
     both("real", 200, |maker, mode| maker.real(mode, 6, 12)),
     both("each name", 40, each_name),
     both("extreme numbers", 120, |maker, mode| maker.extreme(mode)),
@@ -43,6 +43,14 @@ pub const REGIMES: [Regime; 38] = [
     both("equal names", 40, |maker, mode| maker.repeated(mode)),
     both("deficient", 50, |maker, mode| maker.deficient(mode)),
     both("30 sweeps", 8, |maker, mode| maker.restless(mode)),
+    both("nearly dependent columns", 8, |maker, mode| {
+        let m = maker.random.within(4, 9);
+        maker.nearly_dependent(mode, m, 2 * m, m / 3)
+    }),
+    both("nearly dependent columns, 100 stars", 4, |maker, mode| {
+        let m = maker.random.within(5, 16);
+        maker.nearly_dependent(mode, m, 100, m / 2)
+    }),
     both("as many stars as free terms", 30, |maker, mode| {
         maker.tight(mode, 0)
     }),
@@ -125,8 +133,13 @@ pub const REGIMES: [Regime; 38] = [
 ];
 
 /// Each regime of `listed`, which each run makes once.
-pub const LISTED: [&str; 3] = ["worked cases", "tolerance at the step", "limits"];
-pub const LISTED_SINGLE: [&str; 2] = [LISTED[0], LISTED[2]];
+pub const LISTED: [&str; 4] = [
+    "worked cases",
+    "tolerance at the step",
+    "limits",
+    "30 sweeps, settled and not",
+];
+pub const LISTED_SINGLE: [&str; 3] = [LISTED[0], LISTED[2], LISTED[3]];
 
 pub fn asked(mode: u8) -> &'static [u8] {
     match mode {
@@ -167,7 +180,7 @@ pub fn add_close_stars(pool: &mut Pool, random: &mut Random) {
 fn close_together(maker: &mut Maker, mode: u8) -> Case {
     let mut case = maker.real(mode, 6, 12);
     for i in 0..case.n() {
-        case.sheets[i] = maker.place(maker.pool.refused.end..maker.pool.sheets.len());
+        case.sheets[i] = maker.place(maker.pool.near.end..maker.pool.sheets.len());
     }
     maker.observe(&mut case, 1.0);
     case
@@ -210,7 +223,7 @@ fn long(maker: &mut Maker, mode: u8) -> Case {
     case
 }
 
-/// The cases that a run makes once: those of docs/SCOPE.md 12.1, tolerances at a step's norm, and the limits of m and n.
+/// The cases that a run makes once: those of docs/SCOPE.md 12.1, tolerances at a step's norm, the limits of m and n, and 30 sweeps, settled and not.
 pub fn listed(maker: &mut Maker) -> Vec<(&'static str, Case)> {
     let (mut documented, mut at_tolerance, mut limits) = (Vec::new(), Vec::new(), Vec::new());
     iterated::documented(&mut documented);
@@ -225,7 +238,11 @@ pub fn listed(maker: &mut Maker) -> Vec<(&'static str, Case)> {
         case.resize_stars(1025);
         limits.push(case.exact());
     }
-    let lists = [documented, at_tolerance, limits];
+    let mut thirty = Vec::new();
+    for mode in [SINGLE, ITERATED, ROBUST] {
+        thirty.extend([false, true].map(|settled| maker.thirty(mode, 6, settled)));
+    }
+    let lists = [documented, at_tolerance, limits, thirty];
     let named = LISTED.into_iter().zip(lists);
     named
         .flat_map(|(name, cases)| cases.into_iter().map(move |case| (name, case)))

@@ -59,6 +59,7 @@ impl Comparison {
         while made < runs {
             let mut seeded = Random::new(random.bits());
             let mut pool = Pool::new(&mut seeded, 220);
+            pool.add_near();
             fits::add_close_stars(&mut pool, &mut seeded);
             let mut maker = Maker {
                 random: seeded,

@@ -100,8 +100,9 @@ static const char *stored(size_t j) {
 }
 
 static void print_fit(const pointing_fit_answer *answer) {
-    printf("%zu free, rank %zu, %zu iterations, %s\n", answer->n_free, answer->rank, answer->iterations,
-           answer->converged ? "converged" : "not converged");
+    printf("%zu free, rank %zu, %zu iterations, %s, %zu sweeps, %s\n", answer->n_free, answer->rank, answer->iterations,
+           answer->converged ? "converged" : "not converged", answer->sweeps, answer->settled ? "settled" : "not settled");
+    if (!answer->settled) printf("look at this fit with care: after %zu sweeps, the most, its terms were still being told apart\n", answer->sweeps);
     printf("%-16s %14s %14s   their bits\n", "term", "coefficient", "sigma");
     for (size_t j = 0; j < m; j++)
         printf("%-16s %14.6f %14.6f   %016llx %016llx\n", stored(j), coefficients[j], sigma[j], bits(coefficients[j]), bits(sigma[j]));

@@ -146,15 +146,24 @@ fn stored(slot: &[u8]) -> String {
 fn print_fit(run: &Run, fit: &Fit) {
     let answer = &fit.answer;
     println!(
-        "{} free, rank {}, {} iterations, {}",
+        "{} free, rank {}, {} iterations, {}, {} sweeps, {}",
         answer.n_free,
         answer.rank,
         answer.iterations,
         match answer.converged {
             true => "converged",
             false => "not converged",
+        },
+        answer.sweeps,
+        match answer.settled {
+            true => "settled",
+            false => "not settled",
         }
     );
+    if !answer.settled {
+        let sweeps = answer.sweeps;
+        println!("look at this fit with care: after {sweeps} sweeps, the most, its terms were still being told apart");
+    }
     println!(
         "{:<16} {:>14} {:>14}   their bits",
         "term", "coefficient", "sigma"

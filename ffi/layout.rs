@@ -58,6 +58,8 @@ fn main() {
         iterations,
         converged,
         final_lambda,
-        final_step_norm
+        final_step_norm,
+        sweeps,
+        settled
     );
 }

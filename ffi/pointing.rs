@@ -109,6 +109,10 @@ pub struct FitAnswer {
     pub final_lambda: f64,
     /// The length of the last step that was kept before the undamped trial, in radians; +infinity where none was.
     pub final_step_norm: f64,
+    /// Sweeps that the last undamped solve's factorisation made, the one without a turn included; 1 to 30.
+    pub sweeps: usize,
+    /// The last sweep had no turn; false only after 30, the columns still being turned: look at the fit with care.
+    pub settled: bool,
 }
 
 // The calls ask nothing of their caller but the default environment, and that each pointer leads to as many values as it says; one of length 0 is

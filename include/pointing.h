@@ -143,6 +143,8 @@ typedef struct {
     bool converged;                  /* a kept step was shorter than tol_rad */
     double final_lambda;             /* the damping that the next trial would have had */
     double final_step_norm;          /* the length of the last step that was kept before the undamped trial; +infinity where none was */
+    size_t sweeps;                   /* that the last undamped solve's factorisation made, the one without a turn included; 1 to 30 */
+    bool settled;                    /* the last sweep had no turn; false only after 30, the columns still being turned: look at the fit with care */
 } pointing_fit_answer;               /* the single step says iterations 1, converged true, final_lambda 0, final_step_norm 0 */
 
 /* Both fits of n stars to m terms. The iterated one returns the best of the sets that it tried (docs/PROMISES.md, demand 3). The single step

@@ -32,7 +32,9 @@ static void null_fits(void) {
     expect(without_stars(1).refusal == 12, "a fixed term and no star at null pointers give 12");
     expect(without_stars(0).refusal == 11, "no term and no star give 11");
     fixed[0] = 0;
-    expect(without_buffers().refusal == 3, "null buffers of length 0 give 3");
+    const pointing_fit_answer said = without_buffers();
+    expect(said.refusal == 3, "null buffers of length 0 give 3");
+    expect(said.sweeps == 0 && !said.settled, "a refused fit made no sweep and is not settled");
 }
 
 /* The empty model, and slots and sheets that are not there. */
@@ -111,11 +113,45 @@ static void reports(void) {
     options.max_iter = 50;
 }
 
+/* Whether a fit says so many sweeps. */
+static bool made(pointing_fit_answer said, size_t sweeps, bool settled) { return said.refusal == 0 && said.sweeps == sweeps && said.settled == settled; }
+
+/* The run's fit of two terms, both free: the single step or the iterated one. */
+static pointing_fit_answer of_two(const char *first, const char *second, bool iterate) {
+    uint8_t two[2 * POINTING_NAME] = {0};
+    memcpy(two, first, strlen(first)), memcpy(two + POINTING_NAME, second, strlen(second));
+    if (iterate)
+        return pointing_fit_model_iterated(two, 32, fixed, 2, start, 2, dh, N, dd, N, pier, N, sheets, 37 * N, 0.5, 0.8, 1e-12, options, out, M, change, M,
+                                           sigma, M, diagnostics, 3 * N, scratch, SCRATCH);
+    return pointing_fit_model(two, 32, fixed, 2, start, 2, dh, N, dd, N, pier, N, sheets, 37 * N, 0.5, 0.8, 1e-12, out, M, change, M, sigma, M,
+                              diagnostics, 3 * N, scratch, SCRATCH);
+}
+
+/* Counts that follow from docs/SCOPE.md 6.2. IH and ID have no row in common: no turn. FO twice: zeta is 0, so that one turn makes the first column zeros.
+ * FO of ones and DCES of 1.5e-162, whose squares are 0, so that it is not scaled: gamma squared is above 0, beta 0, zeta squared infinite and the turn's
+ * sine 0, so that it turns for ever and changes nothing. */
+static void sweeps(void) {
+    for (int i = 0; i < 2; i++) {
+        const bool iterate = i == 1;
+        fill(1);
+        const pointing_fit_answer said = iterate ? iterated() : single();
+        expect(said.sweeps >= 1 && said.sweeps <= 30 && (said.settled || said.sweeps == 30), "1 to 30 sweeps, below 30 settled");
+        expect(made(of_two("IH", "ID", iterate), 1, true), "columns without a common row take 1 sweep");
+        expect(made(of_two("FO", "FO", iterate), 2, true), "equal columns take 2 sweeps");
+        fixed[0] = fixed[2] = 1;
+        expect(made(iterate ? iterated() : single(), 1, true), "a single free term takes 1 sweep");
+        fixed[0] = fixed[2] = 0;
+        for (int star = 0; star < N; star++) sheets[37 * star + 1] = 1, sheets[37 * star + 18] = 1.5e-162;
+        expect(made(of_two("FO", "DCES", iterate), 30, false), "columns that turn for ever make 30 sweeps and don't settle");
+    }
+}
+
 int main(void) {
     null_fits();
     null_points();
     fixed_coefficients();
     scratch_lengths();
     reports();
+    sweeps();
     return failures != 0;
 }

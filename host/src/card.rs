@@ -42,6 +42,7 @@ fn head(out: &mut String, fitted: &Fitted) {
     };
     line(out, "Fit", mode);
     line(out, "Converged", &converged(fitted));
+    line(out, "Solution", &solution(fitted));
     line(out, "Stars", &run.stars.len().to_string());
     let fixed = run.terms.len() - run.free();
     line(
@@ -61,6 +62,14 @@ fn converged(fitted: &Fitted) -> String {
     }
 }
 
+fn solution(fitted: &Fitted) -> String {
+    let sweeps = plural(fitted.fit.sweeps, "sweep");
+    match fitted.fit.settled {
+        true => format!("settled after {sweeps}"),
+        false => format!("NOT settled: {sweeps} made, the most"),
+    }
+}
+
 fn warnings(out: &mut String, fitted: &Fitted) {
     let fit = &fitted.fit;
     if fit.rank < fit.free {
@@ -74,6 +83,14 @@ fn warnings(out: &mut String, fitted: &Fitted) {
     if !fit.converged {
         *out += "\nWARNING: the fit did not converge: its last steps were not small enough or not better.\n\
                  The coefficients are the best of those it tried.\n";
+    }
+    if !fit.settled {
+        *out += &format!(
+            "\nWARNING: the solution did not settle: the terms were still being told apart when {} sweeps,\n\
+             the most, were made. Coefficients and sigmas may be off, in their last digits or in more.\n\
+             Fix or drop a term that is like another on these stars, or observe in other parts of the sky.\n",
+            fit.sweeps
+        );
     }
 }
 

@@ -15,6 +15,9 @@ pub struct Fit {
     pub rank: usize,
     pub iterations: usize,
     pub converged: bool,
+    /// Sweeps of the last undamped solve, and whether the last of them had no turn.
+    pub sweeps: usize,
+    pub settled: bool,
     pub terms: Vec<TermLine>,
     pub sky_rms: f64,
     pub popn_sd: f64,
@@ -27,7 +30,11 @@ pub enum Listing {
 }
 
 const FIRST: &str =
-    "expected 'fit FREE RANK ITERATIONS yes' (or no), or 'no' and a number from 1 to 15";
+    "expected 'fit FREE RANK ITERATIONS yes SWEEPS yes' (or no for yes), or 'no' and a number from 1 to 15";
+const OLDER: &str =
+    "the listing is of an older fit program, which did not count sweeps: fit the file again";
+/// The most sweeps of a solve.
+const MAX_SWEEPS: usize = 30;
 const TERM: &str = "expected a name and two numbers of 16 hexadecimal digits";
 
 /// Reads a whole listing.
@@ -39,7 +46,7 @@ pub fn read(text: &str) -> Result<Listing, Fault> {
     if first[0] == "no" {
         return refused(first, rest);
     }
-    let mut fit = first_line(first).ok_or(Fault::at(1, FIRST))?;
+    let mut fit = first_line(first)?;
     let (last, terms) = rest
         .split_last()
         .filter(|(last, _)| last[0] == "sky")
@@ -77,23 +84,60 @@ fn refused(first: &[&str], rest: &[Vec<&str>]) -> Result<Listing, Fault> {
     number.map(Listing::Refused).ok_or(Fault::at(1, FIRST))
 }
 
-fn first_line(words: &[&str]) -> Option<Fit> {
-    let ["fit", free, rank, iterations, converged] = words else {
+/// A fit without its terms and sky.
+fn first_line(words: &[&str]) -> Result<Fit, Fault> {
+    let fit = match counts(words) {
+        Some(fit) => fit,
+        // with sweeps behind it, the line of an older program is a whole one
+        None if counts(&[words, &["1", "yes"]].concat()).is_some() => {
+            return Err(Fault::at(1, OLDER));
+        }
+        None => return Err(Fault::at(1, FIRST)),
+    };
+    sweeps(&fit).map_err(|message| Fault::at(1, message))?;
+    Ok(fit)
+}
+
+fn counts(words: &[&str]) -> Option<Fit> {
+    let ["fit", free, rank, iterations, converged, sweeps, settled] = words else {
         return None;
     };
     Some(Fit {
         free: free.parse().ok()?,
         rank: rank.parse().ok()?,
         iterations: iterations.parse().ok()?,
-        converged: match *converged {
-            "yes" => true,
-            "no" => false,
-            _ => return None,
-        },
+        converged: yes_or_no(converged)?,
+        sweeps: sweeps.parse().ok()?,
+        settled: yes_or_no(settled)?,
         terms: Vec::new(),
         sky_rms: 0.0,
         popn_sd: 0.0,
     })
+}
+
+fn yes_or_no(word: &str) -> Option<bool> {
+    match word {
+        "yes" => Some(true),
+        "no" => Some(false),
+        _ => None,
+    }
+}
+
+/// Whether a solve can make these sweeps: it ends with the first that has no turn, and a single column is never turned.
+fn sweeps(fit: &Fit) -> Result<(), String> {
+    let sweeps = fit.sweeps;
+    if !(1..=MAX_SWEEPS).contains(&sweeps) {
+        return Err(format!("{sweeps} sweeps: expected 1 to {MAX_SWEEPS}"));
+    }
+    if !fit.settled && sweeps < MAX_SWEEPS {
+        return Err(format!(
+            "not settled after {sweeps} sweeps: expected yes, or {MAX_SWEEPS} sweeps"
+        ));
+    }
+    if fit.free == 1 && sweeps > 1 {
+        return Err(format!("{sweeps} sweeps of one free term: expected 1"));
+    }
+    Ok(())
 }
 
 fn name_and_two(words: &[&str]) -> Option<(String, f64, f64)> {
@@ -118,7 +162,7 @@ fn double(digits: &str) -> Option<f64> {
 mod tests {
     use super::*;
 
-    const GOOD: &str = "fit 1 1 1 yes\nID 4024000000000000 0000000000000000\nsky 0000000000000000 0000000000000000\n";
+    const GOOD: &str = "fit 1 1 1 yes 1 yes\nID 4024000000000000 0000000000000000\nsky 0000000000000000 0000000000000000\n";
 
     #[test]
     fn document_01() {
@@ -129,6 +173,7 @@ mod tests {
             (fit.free, fit.rank, fit.iterations, fit.converged),
             (1, 1, 1, true)
         );
+        assert_eq!((fit.sweeps, fit.settled), (1, true));
         assert_eq!(
             fit.terms,
             [TermLine {
@@ -153,14 +198,56 @@ mod tests {
             "fit 1 1 yes",
             "fit 1 1 1 maybe",
             "fit a 1 1 yes",
+            "fit 1 1 1 maybe 1 yes",
+            "fit a 1 1 yes 1 yes",
+            "fit 1 1 1 yes 1",
+            "fit 1 1 1 yes 1 maybe",
+            "fit 1 1 1 yes -1 yes",
+            "fit 1 1 1 yes 1 yes 1",
+            "fit 1 1 1 yes 1 yes ",
         ] {
             assert!(fault(bad).starts_with("line 1: expected 'fit"), "{bad}");
         }
         assert!(fault("no 3\nno 3\n").starts_with("line 2: a refusal has one line"));
-        assert!(fault("fit 1 1 1 yes\n").contains("is the listing whole?"));
+        assert!(fault("fit 1 1 1 yes 1 yes\n").contains("is the listing whole?"));
         assert!(fault(&GOOD.replace("ID 4", "ID ")).starts_with("line 2: expected a name"));
         assert!(fault(&GOOD.replace("4024000000000000", "402400000000000A")).starts_with("line 2"));
         assert!(fault(&GOOD.replace("sky 0", "sky ")).starts_with("line 3"));
         assert!(fault(&GOOD[..GOOD.len() - 55]).contains("line 2: the last line"));
+    }
+
+    #[test]
+    fn sweeps_and_settled() {
+        for (words, sweeps, settled) in [
+            ("1 yes", 1, true),
+            ("29 yes", 29, true),
+            ("30 yes", 30, true),
+            ("30 no", 30, false),
+        ] {
+            let text = GOOD.replace("fit 1 1 1 yes 1 yes", &format!("fit 2 2 9 no {words}"));
+            let Ok(Listing::Fit(fit)) = read(&text) else {
+                panic!("no fit: {words}");
+            };
+            assert_eq!((fit.sweeps, fit.settled), (sweeps, settled));
+        }
+        for (first, words) in [
+            ("fit 2 2 1 yes 0 yes", "0 sweeps: expected 1 to 30"),
+            ("fit 2 2 1 yes 31 no", "31 sweeps: expected 1 to 30"),
+            ("fit 2 2 1 yes 29 no", "not settled after 29 sweeps"),
+            ("fit 1 1 1 yes 2 yes", "2 sweeps of one free term"),
+        ] {
+            let text = GOOD.replace("fit 1 1 1 yes 1 yes", first);
+            let said = read(&text).expect_err(first).to_string();
+            assert!(said.starts_with(&format!("line 1: {words}")), "{said}");
+        }
+    }
+
+    #[test]
+    fn an_older_listing() {
+        for first in ["fit 1 1 1 yes", "fit 1 1 0 no"] {
+            let text = GOOD.replace("fit 1 1 1 yes 1 yes", first);
+            let said = read(&text).expect_err(first).to_string();
+            assert_eq!(said, format!("line 1: {OLDER}"));
+        }
     }
 }

@@ -8,6 +8,13 @@ use host::listing::{self, Listing};
 use host::pmf::decode;
 use host::residuals::rms;
 
+/// The night's listing with another first line.
+fn night_with(first: &str) -> String {
+    let listing = text("night.listing");
+    let (_, rest) = listing.split_once('\n').expect("a first line");
+    format!("{first}\n{rest}")
+}
+
 fn card(name: &str) -> String {
     let made = run(
         "pmf-card",
@@ -28,6 +35,7 @@ fn the_night() {
         "POINTING CARD  night.pmf\n",
         "Latitude        +34.5000 degrees\n",
         "Converged       yes, after 2 iterations\n",
+        "Solution        settled after 6 sweeps\n",
         "Terms           6 free, 0 fixed; rank 6\n",
         "IH         -187.11\"        1.73\"          0.00\"  free   Hour angle index error\n",
         "Sky RMS              4.89\"",
@@ -83,6 +91,45 @@ fn not_converged() {
     assert!(card.contains("Converged       NO, after 0 iterations"));
     assert!(card.contains("WARNING: the fit did not converge"));
     assert!(card.contains("ID           10.00\""));
+}
+
+#[test]
+fn one_place() {
+    let card = card("one-place");
+    for words in [
+        "Solution        NOT settled: 30 sweeps made, the most\n",
+        "WARNING: rank 2 is below the 6 free terms: 4 combinations of the terms can't be told",
+        "WARNING: the solution did not settle: the terms were still being told apart when 30 sweeps,\n",
+    ] {
+        assert!(card.contains(words), "{words}\n{card}");
+    }
+}
+
+#[test]
+fn settled_or_not() {
+    let settled = |first: &str| {
+        let listing = night_with(first);
+        let made = run("pmf-card", &[&path("night.pmf")], listing.as_bytes());
+        assert_eq!((code(&made), err(&made).as_str()), (0, ""), "{first}");
+        let card = out(&made);
+        let line = card.lines().find(|line| line.starts_with("Solution"));
+        let warned = card.contains("WARNING: the solution did not settle: the terms were still");
+        assert_eq!(card.contains("WARNING"), warned, "{card}");
+        (line.expect("a line").to_string(), warned)
+    };
+    for (first, line, warned) in [
+        ("fit 6 6 2 yes 1 yes", "settled after 1 sweep", false),
+        ("fit 6 6 2 yes 29 yes", "settled after 29 sweeps", false),
+        ("fit 6 6 2 yes 30 yes", "settled after 30 sweeps", false),
+        (
+            "fit 6 6 2 yes 30 no",
+            "NOT settled: 30 sweeps made, the most",
+            true,
+        ),
+    ] {
+        let expected = (format!("Solution        {line}"), warned);
+        assert_eq!(settled(first), expected, "{first}");
+    }
 }
 
 /// The residuals worked out here give the oracle's sky RMS.
@@ -252,7 +299,22 @@ fn bad_listings_and_files() {
     assert_bad(&pmf, "no 16\n", "line 1: expected 'fit");
     assert_bad(
         &pmf,
-        "fit 6 6 2 yes\nIH c067\n",
+        &night_with("fit 6 6 2 yes"),
+        "line 1: the listing is of an older fit program, which did not count sweeps: fit the file again",
+    );
+    assert_bad(
+        &pmf,
+        &night_with("fit 6 6 2 yes 31 no"),
+        "line 1: 31 sweeps: expected 1 to 30",
+    );
+    assert_bad(
+        &pmf,
+        &night_with("fit 6 6 2 yes 6 no"),
+        "line 1: not settled after 6 sweeps",
+    );
+    assert_bad(
+        &pmf,
+        "fit 6 6 2 yes 6 yes\nIH c067\n",
         "line 2: the last line is not 'sky'",
     );
     assert_bad(&path("night.csv"), &text("night.listing"), "no mark PMF");

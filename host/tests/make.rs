@@ -58,6 +58,7 @@ fn examples_from_standard_input() {
         "wrong-piers",
         "many-terms",
         "no-iterations",
+        "one-place",
         "refused",
     ] {
         let made = run("pmf-make", &[], &bytes(&format!("{name}.csv")));

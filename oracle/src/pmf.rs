@@ -115,16 +115,15 @@ pub fn listing(input: &[u8]) -> String {
         Ok(fit) => fit,
         Err(number) => return format!("no {number}\n"),
     };
+    let word = |yes: bool| if yes { "yes" } else { "no" };
     let mut out = format!(
-        "fit {} {} {} {}\n",
+        "fit {} {} {} {} {} {}\n",
         fit.rank_info.n_free,
         fit.rank_info.rank,
         fit.iter_report.iterations,
-        if fit.iter_report.converged {
-            "yes"
-        } else {
-            "no"
-        },
+        word(fit.iter_report.converged),
+        fit.sweeps,
+        word(fit.settled),
     );
     for (j, name) in fit.term_names.iter().enumerate() {
         out += &format!(

@@ -103,7 +103,7 @@ fn file_program() {
     assert_eq!(input.len(), file_size(1, 1));
     assert_eq!(
         listing(&input),
-        "fit 1 1 1 yes\nID 4024000000000000 0000000000000000\nsky 0000000000000000 0000000000000000\n"
+        "fit 1 1 1 yes 1 yes\nID 4024000000000000 0000000000000000\nsky 0000000000000000 0000000000000000\n"
     );
     assert_eq!(listing(&input[..8]), "no 15\n");
     assert_eq!(listing(&input[..input.len() - 1]), "no 15\n");
@@ -150,8 +150,37 @@ fn file_case_iterated() {
         assert_eq!(fit.iter_report.final_step_norm, f64::INFINITY);
         let mode = if robust { 3 } else { 1 };
         let listing = listing(&file(&run, &options, mode));
-        assert!(listing.starts_with("fit 1 1 0 no\nID 4024000000000000 "));
+        assert!(listing.starts_with("fit 1 1 0 no 1 yes\nID 4024000000000000 "));
     }
+}
+
+/// docs/SCOPE.md 6.2: a single free term is swept once; a column whose squares vanish turns in every sweep, and changes in none.
+#[test]
+fn sweeps() {
+    let of = |run: &Run| {
+        let mut buffers = Buffers::exact(run.m(), run.n(), 7.0);
+        let single = fit_model(run, &mut buffers).unwrap();
+        let iterated = fit_model_iterated(run, &IterOptions::default(), &mut buffers).unwrap();
+        let counts = [&single, &iterated].map(|fit| (fit.sweeps, fit.settled));
+        assert_eq!(counts[0], counts[1]);
+        counts[0]
+    };
+    assert_eq!(of(&file_case()), (1, true));
+    // IH and ID have no row in common
+    let apart = run(&["IH", "ID"], &[0.0; 2], &[0; 2], &[-10.0; 2]);
+    assert_eq!(of(&apart), (1, true));
+    // on one side of the pier ID and FO differ in the sign: a turn makes one of them zeros
+    let opposite = run(&["ID", "FO"], &[0.0; 2], &[0; 2], &[-10.0; 2]);
+    assert_eq!(of(&opposite), (2, true));
+    let beside = run(&["ID", "FO"], &[0.0; 2], &[0, 1], &[-10.0; 2]);
+    assert_eq!(of(&beside), (1, true));
+    let mut vanishing = run(&["FO", "DCES"], &[0.0; 2], &[0; 2], &[-10.0; 5]);
+    for sheet in vanishing.sheets.chunks_mut(37) {
+        sheet[18] = 1.5e-162;
+    }
+    assert_eq!(of(&vanishing), (30, false));
+    let input = file(&vanishing, &IterOptions::default(), 0);
+    assert!(listing(&input).starts_with("fit 2 1 1 yes 30 no\n"));
 }
 
 #[test]

@@ -4,7 +4,7 @@
 use Prim.Native.Nat.{ℕ, zero, suc, _+_, _*_}
 use Prim.Native.String.{String}
 use mathlib.Core.Path.{_≡_}
-use mathlib.Core.Bool.{Bool, false}
+use mathlib.Core.Bool.{Bool, true, false}
 use mathlib.Core.List.{List, [], _∷_, _++_, map}
 use lib.ListN.{length, replicate}
 use lib.Ieee.{Float, inf, binary64, ofBits, neg}
@@ -36,14 +36,14 @@ use Rattle.single_step.specs.SingleStep.{fitOutcome}
 use Rattle.iterated.specs.Iterated.{iteratedOutcome}
 
 -- an answer of a public call: of a fit the coefficients and the rank, or the coefficients, the sky RMS and each star's leverage, or the
--- coefficients, the iterations, whether it converged, and the step norm
+-- coefficients, the iterations, whether it converged, and the step norm; with the first and the last also the sweeps, and whether they settled
 pub data Answer : Type 0 where
   reading : Reading → Answer
   jacobian : Jacobian → Answer
   refusal : ℕ → Answer
-  ranked : List Float → ℕ → Answer
+  ranked : List Float → ℕ → ℕ → Bool → Answer
   measured : List Float → Float → List Float → Answer
-  looped : List Float → ℕ → Bool → Float → Answer
+  looped : List Float → ℕ → Bool → Float → ℕ → Bool → Answer
 
 pub record Case : Type 0 where
   pub got : Answer
@@ -122,7 +122,7 @@ abbrev pub stepped : List Float → Outcome
 stepped dd = fitOutcome (run dd) (exactRoom (length dd))
 
 abbrev pub rankedBy : Fit → List Float → Answer
-rankedBy (Done r) cs = ranked cs (r .«rank_info» .rank)
+rankedBy (Done r) cs = ranked cs (r .«rank_info» .rank) (r .sweeps) (r .settled)
 rankedBy (Refused k) cs = refusal k
 
 abbrev pub measuredBy : Fit → List Float → List Float → Answer
@@ -131,7 +131,7 @@ measuredBy (Refused k) cs ls = refusal k
 
 -- the file case
 abbrev pub fileCase : Case
-fileCase = let o = stepped (neg #10 ∷ []) in record { got = rankedBy (o .answer) (o .left .coefficients); wanted = ranked (#10 ∷ []) 1 }
+fileCase = let o = stepped (neg #10 ∷ []) in record { got = rankedBy (o .answer) (o .left .coefficients); wanted = ranked (#10 ∷ []) 1 1 true }
 
 -- the file case iterated, with the default options but for a limit of 0
 abbrev pub atOnce : IterOptions
@@ -146,13 +146,14 @@ atOnce = record {
 }
 
 abbrev pub loopedBy : Fit → List Float → Answer
-loopedBy (Done r) cs = looped cs (r .«iter_report» .iterations) (r .«iter_report» .converged) (r .«iter_report» .«final_step_norm»)
+loopedBy (Done r) cs =
+    looped cs (r .«iter_report» .iterations) (r .«iter_report» .converged) (r .«iter_report» .«final_step_norm») (r .sweeps) (r .settled)
 loopedBy (Refused k) cs = refusal k
 
 abbrev pub fileCaseIterated : Case
 fileCaseIterated =
     let o = iteratedOutcome (run (neg #10 ∷ [])) atOnce (exactRoom 1) in
-    record { got = loopedBy (o .answer) (o .left .coefficients); wanted = looped (#10 ∷ []) 0 false (inf false) }
+    record { got = loopedBy (o .answer) (o .left .coefficients); wanted = looped (#10 ∷ []) 0 false (inf false) 1 true }
 
 -- the second of each star's three diagnostics
 abbrev pub leverages : ℕ → List Float → List Float

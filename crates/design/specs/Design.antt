@@ -212,3 +212,7 @@ weighedAt k b c ss names j = weighing k b (skyColumn c ss (termAt names j))
 unfoldable pub stacked : ℕ → List (List Float) → List Float
 stacked h [] = []
 stacked h (a ∷ l) = a ++ replicate (h - length a) #0 ++ stacked h l
+
+-- of the columns a those of a run's free terms
+abbrev pub freeColumns : Run → (ℕ → List Float) → List Float
+freeColumns r a = stacked (heightOf r) (map a (r .free))

@@ -30,6 +30,8 @@ givenAnswer r = record {
   converged = r .«iter_report» .converged;
   «final_lambda» = r .«iter_report» .«final_lambda»;
   «final_step_norm» = r .«iter_report» .«final_step_norm»;
+  sweeps = r .sweeps;
+  settled = r .settled;
 }
 
 -- the number of the question that refused the fit, none of which is 0, and zeros
@@ -47,6 +49,8 @@ refusedAnswer k = record {
   converged = false;
   «final_lambda» = #0;
   «final_step_norm» = #0;
+  sweeps = 0;
+  settled = false;
 }
 
 abbrev pub fitAnswer : Fit → FitAnswer

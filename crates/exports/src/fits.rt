@@ -20,6 +20,8 @@ pub struct FitAnswer {
     pub converged: bool,
     pub final_lambda: f64,
     pub final_step_norm: f64,
+    pub sweeps: usize,
+    pub settled: bool,
 }
 
 fn given(r: FitResult) -> FitAnswer
@@ -40,6 +42,8 @@ fn given(r: FitResult) -> FitAnswer
         converged: iter_report.converged,
         final_lambda: iter_report.final_lambda,
         final_step_norm: iter_report.final_step_norm,
+        sweeps: r.sweeps,
+        settled: r.settled,
     }
 }
 
@@ -59,6 +63,8 @@ fn refused(k: u8) -> FitAnswer
         converged: false,
         final_lambda: 0.0,
         final_step_norm: 0.0,
+        sweeps: 0,
+        settled: false,
     }
 }
 

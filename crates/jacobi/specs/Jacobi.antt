@@ -1,9 +1,10 @@
 -- One-sided Jacobi, sentence by sentence as docs/SCOPE.md 6.2 states it, on m columns that lie one after the other in a list.
 -- A column is h numbers: `rows` of A, then m of V, then what the list holds besides. V starts as the identity, which `decomposed` of
 -- linalg writes there. Definitions only.
+use mathlib.Core.Path.{_≡_}
 use mathlib.Core.Bool.{Bool, true, false, cond}
 use mathlib.Core.List.{List, zipWith}
-use Prim.Native.Nat.{ℕ, zero, suc, _+_, _-_, _*_}
+use Prim.Native.Nat.{ℕ, zero, suc, _+_, _-_, _*_, _≤_, _<_}
 use lib.Seq.{sets}
 use lib.Ieee.{Float, binary64, neg, lt, ofBits}
 use Rattle.float.specs.Float.{_⊕_, _⊖_, _⊗_, _⊘_, #0, #1, #2, abs}
@@ -94,6 +95,12 @@ sweeps h rows m (suc n) k w =
 -- at most 30 sweeps are made
 abbrev pub factorised : ℕ → ℕ → ℕ → List Float → Factorised
 factorised h rows m w = sweeps h rows m 30 0 w
+
+-- what holds of every count of sweeps with its flag: from 1 to 30 were made, and fewer than 30 only where the last had no turn
+pub record SweepsInLimit (made : ℕ) (settled : Bool) : Type 0 where
+  pub some : 1 ≤ made
+  pub most : made ≤ 30
+  pub fewer : made < 30 → settled ≡ true
 
 -- α, β and γ of the n numbers from x on and the n from y on
 abbrev pub products : ℕ → ℕ → ℕ → List Float → Products

@@ -4,17 +4,13 @@ use native.Mathlib.Nat.{add-zero}
 use native.Mathlib.Numerals.{add-one}
 use native.Mathlib.Omega.{arith}
 use mathlib.Core.Path.{_≡_, refl, sym, ap, _∙_}
-use mathlib.Core.Bool.{cond}
 use mathlib.Core.List.{List, [], _∷_, _++_}
 use lib.ListN.{length, getD, take, set, length-append}
 use lib.Seq.{length-sets, take-suc, take-all}
 use Rattle.sequence.specs.Sequence.{concatTo}
 use Rattle.sequence.proofs.Parts.{sets-append}
 use Rattle.sequence.proofs.Concat.{concat-none, concat-next}
-use Rattle.harmonic.specs.Table.{ascii}
-use Rattle.solver.specs.declared.FitResult.{FitResult}
-use Rattle.listing.specs.Text.{spaced, newline, Wrote}
-use Rattle.listing.specs.Listing.{countsLine}
+use Rattle.listing.specs.Text.{Wrote}
 
 pub wrote-none : (i : ℕ) (d : List ℕ) → i ≤ length d → Wrote [] i d d i
 wrote-none i d h = record { buffer = refl; end = sym (add-zero i); room = h }
@@ -54,11 +50,3 @@ module _ (f : ℕ → List ℕ) where
 
   pub wrote-texts-next : {a b c : List ℕ} {i j k : ℕ} (n : ℕ) → Wrote (concatTo n f) i a b j → Wrote (f n) j b c k → Wrote (concatTo (n + 1) f) i a c k
   wrote-texts-next n p q = rw (← concat-next f n) (wrote-then p q)
-
--- ---- the first line
-
-pub counts-line : {a b c d e f : List ℕ} {i j k l m n : ℕ} (r : FitResult) (last : List ℕ) → cond (r .«iter_report» .converged) (ascii " yes") (ascii " no") ++ newline ≡ last
-    → Wrote (ascii "fit") i a b j → Wrote (spaced (r .«rank_info» .«n_free»)) j b c k → Wrote (spaced (r .«rank_info» .rank)) k c d l
-    → Wrote (spaced (r .«iter_report» .iterations)) l d e m → Wrote last m e f n → Wrote (countsLine r) i a f n
-unfolding countsLine
-counts-line r last z p q s t u = wrote-then (wrote-then (wrote-then (wrote-then p q) s) t) (rw z u)

@@ -1,6 +1,5 @@
 -- The lines that the file program prints of a fit (docs/SCOPE.md 11.3). Definitions only.
 use Prim.Native.Nat.{ℕ, _*_}
-use mathlib.Core.Bool.{cond}
 use mathlib.Core.List.{List, _++_}
 use lib.Ieee.{Float}
 use Rattle.limits.specs.Limits.{slotBytes}
@@ -8,13 +7,13 @@ use Rattle.sequence.specs.Sequence.{at, part, concatTo}
 use Rattle.harmonic.specs.Table.{ascii}
 use Rattle.terms.specs.Names.{nameOf, readTerm}
 use Rattle.solver.specs.declared.FitResult.{FitResult}
-use Rattle.listing.specs.Text.{spaced, bitsOf, newline}
+use Rattle.listing.specs.Text.{spaced, flag, bitsOf, newline}
 
--- free, rank, iterations, converged
+-- free, rank, iterations, converged, sweeps, settled
 unfoldable pub countsLine : FitResult → List ℕ
 countsLine r =
     ascii "fit" ++ spaced (r .«rank_info» .«n_free») ++ spaced (r .«rank_info» .rank) ++ spaced (r .«iter_report» .iterations)
-    ++ (cond (r .«iter_report» .converged) (ascii " yes") (ascii " no") ++ newline)
+    ++ flag (r .«iter_report» .converged) ++ spaced (r .sweeps) ++ flag (r .settled) ++ newline
 
 -- two floats behind a name, to the end of the line
 unfoldable pub floats : Float → Float → List ℕ
@@ -36,7 +35,7 @@ fitText names m coefficients sigma r = countsLine r ++ termLines names m coeffic
 unfoldable pub refusalText : ℕ → List ℕ
 refusalText number = ascii "no" ++ spaced number ++ newline
 
--- Room for any listing of 16 terms. A count has at most 20 digits and a name at most 16 bytes, so that the first line has at most 71 bytes,
+-- Room for any listing of 16 terms. A count has at most 20 digits and a name at most 16 bytes, so that the first line has at most 96 bytes,
 -- a term's line 51 and the last 38.
 abbrev pub listingRoom : ℕ
-listingRoom = 925
+listingRoom = 950

@@ -2,7 +2,7 @@
 use Prim.Native.Nat.{ℕ, zero, suc, _+_, _-_, _*_, _/_, _%_, _^_, _≤_}
 use Prim.Native.Char.{code}
 use mathlib.Core.Path.{_≡_}
-use mathlib.Core.Bool.{cond}
+use mathlib.Core.Bool.{Bool, cond}
 use mathlib.Core.List.{List, [], _∷_, _++_}
 use lib.Dec.{ltb}
 use lib.ListN.{length}
@@ -37,6 +37,10 @@ hexadecimal v = table 16 (λ i. digit (v / 2 ^ (60 - 4 * i) % 16))
 -- a float is its bits
 unfoldable pub bitsOf : Float → List ℕ
 bitsOf x = hexadecimal (toBits binary64 x)
+
+-- a space and the word of a flag
+abbrev pub flag : Bool → List ℕ
+flag b = cond b (ascii " yes") (ascii " no")
 
 abbrev pub newline : List ℕ
 newline = 10 ∷ []

@@ -7,13 +7,13 @@ ghost use Prim.Native.Nat.{_+_, _*_, _≤_, _<_};
 ghost use lib.ListN.{length};
 ghost use Rattle.limits.specs.Limits.{slotBytes};
 ghost use Rattle.terms.specs.Names.{nameOf};
-ghost use Rattle.listing.specs.Text.{digit, decimal, spaced, hexadecimal, bitsOf, Wrote};
+ghost use Rattle.listing.specs.Text.{digit, decimal, spaced, flag, hexadecimal, bitsOf, Wrote};
 ghost use Rattle.listing.specs.Listing.{countsLine, floats, termLine, termLines, fitText, refusalText, listingRoom};
 use limits::SLOT;
 use solver::FitResult;
 
 // Room for any listing of 16 terms.
-pub const LISTING: usize = 925;
+pub const LISTING: usize = 950;
 
 fn put_byte(out: &mut [u8], at: usize, b: u8) -> usize
     requires { ⌜ at + 1 ≤ length (now out) ⌝ }
@@ -111,11 +111,23 @@ fn put_count(out: &mut [u8], at: usize, v: usize) -> usize
     put_decimal(out, a, v)
 }
 
-// Free, rank, iterations, converged.
+// A space and yes or no.
+fn put_flag(out: &mut [u8], at: usize, yes: bool) -> usize
+    requires { ⌜ at + 4 ≤ length (now out) ⌝ }
+    ensures wrote { λ r. ⌜ Wrote (flag yes) at (now (out .entry)) (now (out .exit)) r ⌝ }
+    ensures bound { λ r. ⌜ r ≤ at + 4 ⌝ }
+{
+    if yes {
+        return put_bytes(out, at, b" yes");
+    }
+    put_bytes(out, at, b" no")
+}
+
+// Free, rank, iterations, converged, sweeps, settled.
 fn put_counts(out: &mut [u8], at: usize, r: FitResult) -> usize
-    requires { ⌜ at + 71 ≤ length (now out) ⌝ }
+    requires { ⌜ at + 96 ≤ length (now out) ⌝ }
     ensures wrote { λ n. ⌜ Wrote (countsLine r) at (now (out .entry)) (now (out .exit)) n ⌝ }
-    ensures bound { λ n. ⌜ n ≤ at + 71 ⌝ }
+    ensures bound { λ n. ⌜ n ≤ at + 96 ⌝ }
 {
     let rank_info = r.rank_info;
     let iter_report = r.iter_report;
@@ -123,11 +135,10 @@ fn put_counts(out: &mut [u8], at: usize, r: FitResult) -> usize
     let b = put_count(out, a, rank_info.n_free);
     let c = put_count(out, b, rank_info.rank);
     let d = put_count(out, c, iter_report.iterations);
-    if iter_report.converged {
-        put_bytes(out, d, b" yes\n")
-    } else {
-        put_bytes(out, d, b" no\n")
-    }
+    let e = put_flag(out, d, iter_report.converged);
+    let f = put_count(out, e, r.sweeps);
+    let g = put_flag(out, f, r.settled);
+    put_byte(out, g, b'\n')
 }
 
 // The stored name of a slot's term, its coefficient and its sigma.

@@ -2,7 +2,7 @@
 -- `state`. Definitions only.
 use Prim.Native.Nat.{ℕ, _+_, _*_}
 use mathlib.Core.Bool.{Bool, _&&_, _||_, cond}
-use mathlib.Core.List.{List, map, zipWith}
+use mathlib.Core.List.{List, zipWith}
 use lib.ListN.{length, getD, set}
 use lib.Ieee.{Float, binary64, ofBits, sub, lt, eq}
 use Rattle.float.specs.Float.{_⊕_, _⊗_, _⊘_, #0, abs}
@@ -13,7 +13,7 @@ use Rattle.terms.specs.Names.{same, padded}
 use Rattle.terms.specs.declared.Term.{Term}
 use Rattle.linalg.specs.Linalg.{Solved, solvedDamped}
 use Rattle.solver.specs.declared.IterOptions.{IterOptions}
-use Rattle.design.specs.Design.{Run, rowsOf, heightOf, columnOf, skyOf, differences, skyRows, predicted, weighing, stacked}
+use Rattle.design.specs.Design.{Run, rowsOf, heightOf, columnOf, skyOf, differences, skyRows, predicted, weighing, freeColumns}
 use Rattle.stats.specs.Stats.{sqrt, count, degrees}
 
 -- ---- residuals_under_state and chi2_at_state
@@ -56,8 +56,7 @@ weighedColumn r k s j = weighing k (skyResiduals r s) (skyOf r j)
 
 unfoldable pub lmStep : Run → Float → Float → List Float → Solved
 lmStep r k lambda s =
-    solvedDamped (heightOf r) (rowsOf r) (length (r .free)) (stacked (heightOf r) (map (weighedColumn r k s) (r .free))) (weighedResiduals r k s)
-    lambda (r .settings .«fit_tol»)
+    solvedDamped (heightOf r) (rowsOf r) (length (r .free)) (freeColumns r (weighedColumn r k s)) (weighedResiduals r k s) lambda (r .settings .«fit_tol»)
 
 -- ---- trial_state_from
 

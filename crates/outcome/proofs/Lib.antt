@@ -4,3 +4,4 @@ pub mod Runs
 pub mod Call
 pub mod Diagnostics
 pub mod AnyScratch
+pub mod Sweeps

@@ -6,8 +6,9 @@ use lib.ListN.{length, drop, replicate}
 use lib.Ieee.{Float}
 use Rattle.float.specs.Float.{#0}
 use Rattle.sequence.specs.Sequence.{at, concatTo}
+use Rattle.jacobi.specs.Jacobi.{Factorised}
 use Rattle.linalg.specs.declared.SolveOutcome.{SolveOutcome}
-use Rattle.linalg.specs.Linalg.{Solved, leverageAfter}
+use Rattle.linalg.specs.Linalg.{Solved, factorisedFrom, leverageAfter}
 use Rattle.solver.specs.declared.Fit.{Fit}
 use Rattle.solver.specs.declared.Fit.the-variants.{Done, Refused}
 use Rattle.solver.specs.declared.FitResult.{FitResult}
@@ -15,7 +16,7 @@ use Rattle.solver.specs.declared.IterReport.{IterReport}
 use Rattle.solver.specs.declared.ObsDiagnostic.{ObsDiagnostic}
 use Rattle.solver.specs.declared.Settings.{Settings}
 use Rattle.solver.specs.Call.{Buffers, buffers}
-use Rattle.design.specs.Design.{Run, heightOf, scattered}
+use Rattle.design.specs.Design.{Run, rowsOf, heightOf, scattered, freeColumns}
 use Rattle.validate.specs.declared.Asked.{Asked}
 use Rattle.validate.specs.declared.Asked.the-variants.{Pass, No}
 use Rattle.stats.specs.declared.Sky.{Sky}
@@ -47,7 +48,18 @@ answerOf free c o sky report =
       «popn_sd» = sky .«popn_sd»;
       «rank_info» = record { «n_free» = free; rank = o .rank; «sigma_max» = o .«sigma_max»; «sigma_min» = o .«sigma_min»; tol = c .«fit_tol» };
       «iter_report» = report;
+      sweeps = o .sweeps;
+      settled = o .settled;
     }
+
+-- the factorisation of the free terms' columns a, without a damping row
+abbrev pub factorisedIn : Run → (ℕ → List Float) → Factorised
+factorisedIn r a = factorisedFrom (heightOf r) (rowsOf r) (length (r .free)) (freeColumns r a)
+
+-- the count and the flag that an answer tells are those of a factorisation
+pub record Tells (f : Factorised) (a : FitResult) : Type 0 where
+  pub sweeps : a .sweeps ≡ f .made
+  pub settled : a .settled ≡ f .settled
 
 -- ---- the answer and what each buffer holds at the end
 

@@ -137,5 +137,7 @@ pub fn finish(
             tol: s.fit_tol,
         },
         iter_report: report,
+        sweeps: solved.sweeps,
+        settled: solved.settled,
     }
 }

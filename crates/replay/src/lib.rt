@@ -129,6 +129,11 @@ pub fn hold_all(held: Held, s: &[f64]) -> Held {
     held
 }
 
+// The byte of a flag.
+pub fn flag_code(flag: bool) -> u8 {
+    if flag { 1 } else { 0 }
+}
+
 // One more: a count of records never wraps.
 pub fn more(n: u64) -> u64 {
     std::num::wrapping_add_u64(n, 1)

@@ -20,6 +20,8 @@ struct Tally {
     refused: [u64; 16],
     deficient: u64,
     not_numbers: u64,
+    thirty: u64,
+    not_settled: u64,
     converged: u64,
     robust: u64,
     different: u64,
@@ -145,10 +147,6 @@ fn cleared(s: &[f64], n: usize) -> bool {
     zeros && kept
 }
 
-fn converged_code(converged: bool) -> u8 {
-    if converged { 1 } else { 0 }
-}
-
 // The record of an accepted fit.
 fn hold_result(held: Held, r: FitResult) -> Held {
     let rank_info = r.rank_info;
@@ -164,11 +162,14 @@ fn hold_result(held: Held, r: FitResult) -> Held {
     let converged = replay::byte();
     held = hold(held, iter_report.final_lambda);
     held = hold(held, iter_report.final_step_norm);
+    let sweeps = little_endian::size(replay::byte());
+    let settled = replay::byte();
     let counts = n_free == rank_info.n_free && rank == rank_info.rank;
     let loops = iterations == iter_report.iterations
-        && converged == converged_code(iter_report.converged);
+        && converged == replay::flag_code(iter_report.converged);
+    let turned = sweeps == r.sweeps && settled == replay::flag_code(r.settled);
     Held {
-        same: held.same && counts && loops,
+        same: held.same && counts && loops && turned,
         numbers: held.numbers,
     }
 }
@@ -269,6 +270,12 @@ fn count_done(mut t: Tally, mode: u8, r: FitResult, held: Held, expected: u8) ->
     }
     if !held.numbers {
         t.not_numbers = replay::more(t.not_numbers);
+    }
+    if r.sweeps == 30 {
+        t.thirty = replay::more(t.thirty);
+    }
+    if !r.settled {
+        t.not_settled = replay::more(t.not_settled);
     }
     if !held.same || expected != 0 {
         t.different = replay::more(t.different);
@@ -554,6 +561,8 @@ fn report(t: Tally, iterated: bool) {
     report_refused(refused, iterated);
     replay::line(b"deficient", t.deficient);
     replay::line(b"not numbers", t.not_numbers);
+    replay::line(b"thirty sweeps", t.thirty);
+    replay::line(b"not settled", t.not_settled);
     if iterated {
         replay::line(b"converged", t.converged);
         replay::line(b"robust", t.robust);
@@ -571,6 +580,8 @@ fn records(pool: &[f64], bytes: &mut [u8], numbers: &mut [f64]) -> Tally
         refused: [0; 16],
         deficient: 0,
         not_numbers: 0,
+        thirty: 0,
+        not_settled: 0,
         converged: 0,
         robust: 0,
         different: 0,

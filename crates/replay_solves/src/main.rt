@@ -51,10 +51,6 @@ fn hold_first(held: Held, x: [f64; MAX_TERMS], m: usize) -> Held
     held
 }
 
-fn settled_code(settled: bool) -> u8 {
-    if settled { 1 } else { 0 }
-}
-
 // The leverage of the first rows, from the columns that the solve left.
 fn hold_leverage(held: Held, w: &[f64], h: usize, rows: usize, r: SolveOutcome, m: usize) -> Held
     requires { ⌜ (rows ≤ h) × (m ≤ maxTerms) × Placed h (now w) (take m (r .order)) × (length (take m (r .order)) ≡ m) ⌝ }
@@ -88,7 +84,7 @@ fn hold_outcome(r: SolveOutcome, m: usize, w: &[f64], h: usize, rows: usize) -> 
     let settled = replay::byte();
     let same = held.same && rank == r.rank && sweeps == r.sweeps;
     Held {
-        same: same && settled == settled_code(r.settled),
+        same: same && settled == replay::flag_code(r.settled),
         numbers: held.numbers,
     }
 }

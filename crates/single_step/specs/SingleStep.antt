@@ -1,7 +1,7 @@
 -- The single-step fit, as solver/single_step.rs has it, and the outcome of the call. Definitions only.
 use Prim.Native.Nat.{ℕ}
 use mathlib.Core.Bool.{true}
-use mathlib.Core.List.{List, map, zipWith}
+use mathlib.Core.List.{List, zipWith}
 use lib.ListN.{length, replicate}
 use lib.Ieee.{Float, add, sub, binary64}
 use Rattle.float.specs.Float.{#0}
@@ -10,7 +10,7 @@ use Rattle.linalg.specs.Linalg.{Solved, solved}
 use Rattle.solver.specs.declared.IterReport.{IterReport}
 use Rattle.solver.specs.Call.{FitInputs, Buffers, sizesOf}
 use Rattle.validate.specs.Questions.{scratchNeeded, asked, noOptions}
-use Rattle.design.specs.Design.{Run, runOf, rowsOf, heightOf, columnOf, skyOf, differences, skyDifferences, subtractAll, product, extracted, scattered, stacked}
+use Rattle.design.specs.Design.{Run, runOf, rowsOf, heightOf, columnOf, skyOf, differences, skyDifferences, subtractAll, product, extracted, scattered, freeColumns}
 use Rattle.outcome.specs.Outcome.{Outcome, decided, finished}
 
 -- ---- single_step_fit, of a run and the coefficients s that it starts from, one for each of its m terms
@@ -19,9 +19,9 @@ use Rattle.outcome.specs.Outcome.{Outcome, decided, finished}
 unfoldable pub toFit : Run → List Float → List Float
 toFit r s = subtractAll (length s) (at s) (skyOf r) (skyDifferences (r .stars))
 
--- solve_and_covariance of the free columns
+-- solve_and_covariance of the free columns on the sky
 unfoldable pub step : Run → List Float → Solved
-step r s = solved (heightOf r) (rowsOf r) (length (r .free)) (stacked (heightOf r) (map (skyOf r) (r .free))) (toFit r s) (r .settings .«fit_tol»)
+step r s = solved (heightOf r) (rowsOf r) (length (r .free)) (freeColumns r (skyOf r)) (toFit r s) (r .settings .«fit_tol»)
 
 -- a free term's change is the number at its place in x, a fixed term's is 0
 abbrev pub changeFrom : Run → List Float → List Float

@@ -86,12 +86,15 @@ pub struct ObsDiagnostic {
     pub studentized: f64,
 }
 
-// What a fit answers beside the coefficients, their change and sigma, and the diagnostics, which lie in lent buffers.
+// What a fit answers beside the coefficients, their change and sigma, and the diagnostics, which lie in lent buffers. Beside the Rust's record: how many
+// sweeps the last undamped solve made, the one without a turn included, and whether the last of them had none.
 pub struct FitResult {
     pub sky_rms: f64,
     pub popn_sd: f64,
     pub rank_info: RankInfo,
     pub iter_report: IterReport,
+    pub sweeps: usize,
+    pub settled: bool,
 }
 
 // A whole fit, or the number of the question that refused it.

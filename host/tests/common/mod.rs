@@ -6,13 +6,14 @@ use std::io::Write;
 use std::path::PathBuf;
 use std::process::{Command, Output, Stdio};
 
-pub const FITTED: [&str; 6] = [
+pub const FITTED: [&str; 7] = [
     "document-01",
     "night",
     "night-indat",
     "wrong-piers",
     "many-terms",
     "no-iterations",
+    "one-place",
 ];
 
 pub fn example(file: &str) -> PathBuf {

@@ -25,7 +25,7 @@ pub struct Answer {
 }
 
 impl Answer {
-    /// The first line of a listing.
+    /// The first line of a listing without its sweeps, which the published fit doesn't tell.
     pub fn first_line(&self) -> String {
         let converged = if self.converged { "yes" } else { "no" };
         format!(

@@ -11,7 +11,7 @@ pub struct Example {
     pub night: Night,
     /// None for a single step.
     pub options: Option<IterOptions>,
-    /// The first line of the listing beside it.
+    /// The first line of the listing beside it, without its sweeps.
     pub listed: String,
 }
 
@@ -28,7 +28,8 @@ pub fn read(folder: &Path) -> Vec<Example> {
 
 fn example(file: &Path) -> Option<Example> {
     let listing = std::fs::read_to_string(file.with_extension("listing")).expect("a listing");
-    let listed = listing.lines().next().unwrap_or("").to_string();
+    let first_line = listing.lines().next().unwrap_or("");
+    let listed = first_line.split(' ').take(5).collect::<Vec<_>>().join(" ");
     let run = host::pmf::decode(&std::fs::read(file).expect("a file")).expect("a PMF file");
     let options = IterOptions {
         max_iter: usize::from(run.options.max_iter),

@@ -103,6 +103,8 @@ pub fn fit_model_iterated(inputs: &FitInputs<'_>, options: &IterOptions) -> Resu
             final_lambda: lm.lambda,
             final_step_norm: lm.last_step_norm,
         },
+        sweeps: final_solved.sweeps,
+        settled: final_solved.settled,
     })
 }
 

@@ -11,7 +11,8 @@ pub struct SolveOutcome {
     pub rank: usize,
     pub sigma_max: f64,
     pub sigma_min: f64,
-    // beside the Rust's: the sweeps that the factorisation made, and whether the last had no turn
+    // beside the Rust's, docs/SCOPE.md 6.2.6: the sweeps that the factorisation made, and whether the
+    // last had no turn
     pub sweeps: usize,
     pub settled: bool,
 }

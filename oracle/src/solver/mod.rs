@@ -14,7 +14,7 @@ use crate::sheet::Latitude;
 use crate::terms::Term;
 
 pub use iterated::fit_model_iterated;
-pub use tried::{tried, weighted_residuals};
+pub use tried::{solves, tried, weighted_residuals};
 
 use single_step::fit_model_with_inputs;
 
@@ -29,6 +29,10 @@ pub struct FitResult {
     pub rank_info: RankInfo,
     pub diagnostics: Vec<ObsDiagnostic>,
     pub iter_report: IterReport,
+    // beside the Rust's, docs/SCOPE.md 9.5: the sweeps of the last undamped solve, and whether the
+    // last of them had no turn
+    pub sweeps: usize,
+    pub settled: bool,
 }
 
 #[derive(Clone, Debug, Default)]

@@ -63,6 +63,8 @@ pub(super) fn fit_model_with_inputs(inputs: &FitInputs<'_>) -> Result<FitResult>
             final_lambda: 0.0,
             final_step_norm: 0.0,
         },
+        sweeps: outcome.solved.sweeps,
+        settled: outcome.solved.settled,
     })
 }
 

@@ -1,9 +1,9 @@
-//! docs/SCOPE.md 8.7: the sets that an iterated fit tries, worked out from its input alone, and a
-//! set's weighted residuals.
+//! docs/SCOPE.md 8.7: the sets that an iterated fit tries and the solves that propose them, worked
+//! out from its input alone, and a set's weighted residuals.
 
 use super::design::cos_dec_per_obs;
 use super::iterated::{build_lm_system, rotational_step_norm};
-use super::linalg::solve_damped;
+use super::linalg::{solve_damped, SolveOutcome};
 use super::validate::{collect_indices, validate_fit_inputs};
 use super::{FitInputs, IterOptions};
 use crate::error::Result;
@@ -38,18 +38,18 @@ fn chi2(inputs: &FitInputs<'_>, set: &[f64]) -> f64 {
     total
 }
 
-/// The step that the linear solver proposes from a set.
-fn step(
+/// The solve that proposes a step from a set.
+fn solve(
     inputs: &FitInputs<'_>,
     options: &IterOptions,
     set: &[f64],
     chi2: f64,
     lambda: f64,
-) -> Result<DVector> {
+) -> Result<SolveOutcome> {
     let free = collect_indices(inputs.fixed, false);
     let cos_dec = cos_dec_per_obs(inputs.observations);
     let (a, b) = build_lm_system(inputs, set, &cos_dec, &free, options, chi2);
-    Ok(solve_damped(&a, &b, lambda, inputs.fit_tol)?.x)
+    solve_damped(&a, &b, lambda, inputs.fit_tol)
 }
 
 /// The set with its free coefficients moved.
@@ -67,21 +67,37 @@ fn moved(inputs: &FitInputs<'_>, set: &[f64], step: &DVector) -> Vec<f64> {
 
 /// First the start, then the set of each trial, kept or rejected, last that of the undamped one.
 pub fn tried(inputs: &FitInputs<'_>, options: &IterOptions) -> Result<Vec<Vec<f64>>> {
+    Ok(all(inputs, options)?.0)
+}
+
+/// The solve of each trial, last the undamped one.
+pub fn solves(inputs: &FitInputs<'_>, options: &IterOptions) -> Result<Vec<SolveOutcome>> {
+    Ok(all(inputs, options)?.1)
+}
+
+/// The sets tried, and the solves.
+fn all(
+    inputs: &FitInputs<'_>,
+    options: &IterOptions,
+) -> Result<(Vec<Vec<f64>>, Vec<SolveOutcome>)> {
     validate_fit_inputs(inputs)?;
     let free = collect_indices(inputs.fixed, false);
     let mut current = inputs.coefficients.to_vec();
     let mut current_chi2 = chi2(inputs, &current);
     let mut lambda = options.initial_lambda;
     let mut list = vec![current.clone()];
+    let mut solves = Vec::new();
     for _ in 0..options.max_iter {
-        let step = step(inputs, options, &current, current_chi2, lambda)?;
-        let trial = moved(inputs, &current, &step);
+        let solved = solve(inputs, options, &current, current_chi2, lambda)?;
+        let trial = moved(inputs, &current, &solved.x);
         let trial_chi2 = chi2(inputs, &trial);
+        let norm = rotational_step_norm(inputs.terms, &free, &solved.x);
         list.push(trial.clone());
+        solves.push(solved);
         if trial_chi2 < current_chi2 {
             (current, current_chi2) = (trial, trial_chi2);
             lambda /= options.lambda_down;
-            if rotational_step_norm(inputs.terms, &free, &step) < options.tol_rad {
+            if norm < options.tol_rad {
                 break;
             }
         } else {
@@ -91,7 +107,8 @@ pub fn tried(inputs: &FitInputs<'_>, options: &IterOptions) -> Result<Vec<Vec<f6
             }
         }
     }
-    let last = step(inputs, options, &current, current_chi2, 0.0)?;
-    list.push(moved(inputs, &current, &last));
-    Ok(list)
+    let last = solve(inputs, options, &current, current_chi2, 0.0)?;
+    list.push(moved(inputs, &current, &last.x));
+    solves.push(last);
+    Ok((list, solves))
 }

@@ -27,6 +27,8 @@ struct Records {
     files: usize,
     fits: usize,
     refused: [usize; 16],
+    /// First lines that end in 30 no, and in 30 yes.
+    thirty: [usize; 2],
 }
 
 impl Records {
@@ -45,6 +47,9 @@ impl Records {
             }
             None => self.fits += 1,
         }
+        let first = listing.lines().next().expect("a first line");
+        self.thirty[0] += first.ends_with(" 30 no") as usize;
+        self.thirty[1] += first.ends_with(" 30 yes") as usize;
     }
 
     /// A whole file, the base of the damaged ones after it.
@@ -243,9 +248,30 @@ fn refusals(records: &mut Records, maker: &mut Maker) {
     }
 }
 
+/// First lines that end in 30 no and in 30 yes, of 16 terms and 100 stars, in each mode; small runs
+/// of nearly dependent columns, of one whose squares vanish, and of one free term.
+fn sweeps(records: &mut Records, maker: &mut Maker) {
+    for settled in [false, true] {
+        let case = maker.thirty(SINGLE, 16, settled);
+        records.whole(bytes(maker, &case));
+        records.change(6, &[ITERATED]);
+        records.change(6, &[ROBUST]);
+    }
+    for mode in MODES {
+        for case in [
+            maker.nearly_dependent(mode, 6, 8, 2),
+            maker.restless(mode),
+            maker.one_free(mode, 4),
+        ] {
+            records.whole(bytes(maker, &case));
+        }
+    }
+}
+
 pub fn vectors() -> Vectors {
     let mut random = Random::new(0x6669_6c65);
-    let pool = Pool::new(&mut random, 220);
+    let mut pool = Pool::new(&mut random, 220);
+    pool.add_near();
     let maker = &mut Maker {
         random,
         pool: &pool,
@@ -257,6 +283,8 @@ pub fn vectors() -> Vectors {
     limits(records, maker);
     regimes(records, maker);
     refusals(records, maker);
+    sweeps(records, maker);
+    assert!(records.thirty.iter().all(|&count| count >= MODES.len()));
     let mut stdout = format!("files {}\nfits {}\n", records.files, records.fits);
     for (number, count) in records.refused.iter().enumerate() {
         if *count > 0 {

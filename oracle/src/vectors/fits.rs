@@ -3,7 +3,9 @@
 use super::runs::{Case, Pool, ROBUST, SINGLE};
 use super::{put_doubles, Vectors};
 use crate::demand3::demand3;
-use crate::solver::FitResult;
+use crate::pmf::bits;
+use crate::questions::Run;
+use crate::solver::{solves, tried, FitResult};
 
 pub struct Records<'a> {
     pool: &'a Pool,
@@ -12,8 +14,13 @@ pub struct Records<'a> {
     refused: [usize; 14],
     deficient: usize,
     not_numbers: usize,
+    thirty: usize,
+    not_settled: usize,
     converged: usize,
     robust: usize,
+    /// Iterated fits whose closing solve made another number of sweeps than each trial's, by whether
+    /// its set was kept.
+    apart: [usize; 2],
     /// The sets that demand 3 compared returned ones with.
     pub compared: usize,
 }
@@ -91,6 +98,7 @@ fn put_fit(out: &mut Vec<u8>, fit: &FitResult) {
     put_u16(out, &[fit.iter_report.iterations]);
     out.push(fit.iter_report.converged as u8);
     put_doubles(out, &rest[3..]);
+    out.extend([fit.sweeps as u8, fit.settled as u8]);
 }
 
 impl<'a> Records<'a> {
@@ -102,9 +110,27 @@ impl<'a> Records<'a> {
             refused: [0; 14],
             deficient: 0,
             not_numbers: 0,
+            thirty: 0,
+            not_settled: 0,
             converged: 0,
             robust: 0,
+            apart: [0; 2],
             compared: 0,
+        }
+    }
+
+    /// Holds the sweeps of an iterated fit to the solves worked out from its input alone.
+    fn check_sweeps(&mut self, run: &Run, case: &Case, fit: &FitResult) {
+        let made = run.with_inputs(|inputs| solves(inputs, &case.options));
+        let made = made.expect("an accepted run");
+        let (closing, trials) = made.split_last().expect("the closing solve");
+        assert_eq!((fit.sweeps, fit.settled), (closing.sweeps, closing.settled));
+        if !trials.is_empty() && trials.iter().all(|t| t.sweeps != closing.sweeps) {
+            let sets = run.with_inputs(|inputs| tried(inputs, &case.options));
+            let sets = sets.expect("an accepted run");
+            let of = |set: &[f64]| set.iter().map(|&x| bits(x)).collect::<Vec<_>>();
+            let kept = of(&sets[sets.len() - 1]) == of(&fit.coefficients);
+            self.apart[kept as usize] += 1;
         }
     }
 
@@ -125,10 +151,13 @@ impl<'a> Records<'a> {
                 self.refused[0] += 1;
                 self.deficient += fit.rank_info.is_deficient() as usize;
                 self.not_numbers += floats(&fit).iter().any(|x| x.is_nan()) as usize;
+                self.thirty += (fit.sweeps == 30) as usize;
+                self.not_settled += !fit.settled as usize;
                 if case.mode != SINGLE {
                     self.converged += fit.iter_report.converged as usize;
                     self.robust += (case.mode == ROBUST) as usize;
                     self.compared += demand3(&run, &case.options, &fit).expect("demand 3");
+                    self.check_sweeps(&run, case, &fit);
                 }
             }
         }
@@ -145,7 +174,12 @@ impl<'a> Records<'a> {
         assert_eq!(self.refused[0] + listed, self.fits);
         stdout += &format!("deficient {}\n", self.deficient);
         stdout += &format!("not numbers {}\n", self.not_numbers);
+        // a 30th sweep with a turn, and one without
+        assert!(0 < self.not_settled && self.not_settled < self.thirty);
+        stdout += &format!("thirty sweeps {}\n", self.thirty);
+        stdout += &format!("not settled {}\n", self.not_settled);
         if iterated {
+            assert!(self.apart.iter().all(|&count| count > 0));
             stdout += &format!("converged {}\nrobust {}\n", self.converged, self.robust);
         }
         stdout += "different 0\n";

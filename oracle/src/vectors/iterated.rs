@@ -234,12 +234,14 @@ fn cases(maker: &mut Maker) -> Vec<Case> {
     out.extend(maker.shape_refusals(&MODES));
     out.extend(maker.refusals(&MODES, &ASKED));
     maker.in_each_scratch(&MODES, &mut out);
+    out.extend(maker.by_sweeps(&MODES));
     out
 }
 
 pub fn vectors() -> Vectors {
     let mut random = Random::new(0x6974_6572);
-    let pool = Pool::new(&mut random, 220);
+    let mut pool = Pool::new(&mut random, 220);
+    pool.add_near();
     let cases = cases(&mut Maker {
         random,
         pool: &pool,

@@ -12,6 +12,7 @@ pub mod random;
 pub mod runs;
 pub mod single_step;
 pub mod solves;
+pub mod sweeps;
 
 /// Stands behind the last record of each file; no record begins with it.
 const MARK: u8 = 255;

@@ -31,6 +31,8 @@ pub struct Pool {
     pub restless: Range<usize>,
     /// A NaN or an infinity at each place.
     pub refused: Range<usize>,
+    /// Of one place but for some ulps in each number; none before `add_near`.
+    pub near: Range<usize>,
 }
 
 fn real_sheet(random: &mut Random) -> [f64; SHEET] {
@@ -103,10 +105,23 @@ impl Pool {
             real: 1..real + 1,
             polar: real + 1..real + 9,
             refused: restless.end..sheets.len(),
+            near: sheets.len()..sheets.len(),
             extreme,
             restless,
             sheets,
         }
+    }
+
+    /// Adds eight sheets that are ulps apart, the same to every pool.
+    pub fn add_near(&mut self) {
+        let mut random = Random::new(0x6e65_6172);
+        let place = real_sheet(&mut random);
+        let start = self.sheets.len();
+        for _ in 0..8 {
+            let ulps = |x: f64| f64::from_bits(x.to_bits() + random.below(4) as u64);
+            self.sheets.push(place.map(ulps));
+        }
+        self.near = start..self.sheets.len();
     }
 
     /// The number of sheets, then the sheets.
@@ -312,7 +327,7 @@ pub const NAMES: [&str; 40] = [
     "HASH",
     "HZCD3",
 ];
-const FLAT: usize = 36;
+pub const FLAT: usize = 36;
 
 /// Terms that enter the rotational step norm, and terms that don't.
 pub const ROTATIONAL: [&str; 6] = ["IH", "ID", "NP", "ME", "ih", "np"];

@@ -104,12 +104,14 @@ fn cases(maker: &mut Maker) -> Vec<Case> {
         out.push(case);
     }
     maker.in_each_scratch(&[SINGLE], &mut out);
+    out.extend(maker.by_sweeps(&[SINGLE]));
     out
 }
 
 pub fn vectors() -> Vectors {
     let mut random = Random::new(0x7369_6e67);
-    let pool = Pool::new(&mut random, 220);
+    let mut pool = Pool::new(&mut random, 220);
+    pool.add_near();
     let cases = cases(&mut Maker {
         random,
         pool: &pool,
