@@ -3,7 +3,7 @@
 #![allow(dead_code)]
 
 use crate::pointing::{self, FitAnswer, FitOptions};
-use oracle::questions::{jacobian, Buffers, Point, Run, NAME};
+use oracle::questions::{jacobian, Buffers, Point, Run, BY_STARS, NAME};
 use oracle::sheet::SHEET;
 use oracle::solver::{self, FitInputs, FitResult, IterOptions};
 use std::hint::black_box;
@@ -64,6 +64,7 @@ pub fn night(random: &mut Random, n: usize, m: usize) -> Run {
         sin_lat,
         cos_lat,
         fit_tol: 1e-12,
+        sigma_by: BY_STARS,
     };
     while run.piers.len() < n {
         let (h, dec) = (random.unit() * 3.1, random.unit() * 1.4);
@@ -107,6 +108,7 @@ pub fn ours(run: &Run, options: Option<&IterOptions>, b: &mut Buffers) -> FitAns
         sin_lat: run.sin_lat,
         cos_lat: run.cos_lat,
         fit_tol: run.fit_tol,
+        sigma_by: run.sigma_by,
     };
     let mut buffers = pointing::Buffers {
         coefficients: &mut b.coefficients,
@@ -152,6 +154,7 @@ pub fn bare(inputs: &FitInputs, options: Option<&IterOptions>) -> FitResult {
             inputs.coefficients,
             inputs.latitude,
             inputs.fit_tol,
+            inputs.sigma_by,
         ),
         Some(options) => solver::fit_model_iterated(inputs, options),
     };

@@ -2,7 +2,7 @@
 
 use crate::pointing::{self, FitAnswer, FitOptions, Pair};
 use oracle::libm;
-use oracle::questions::{self, LentModel, Run, MAX_TERMS};
+use oracle::questions::{self, LentModel, Run, BY_ROWS, BY_STARS, MAX_TERMS};
 use oracle::solver::{FitResult, IterOptions};
 use oracle::vectors::jacobians::Block;
 use oracle::vectors::names::describe;
@@ -276,6 +276,7 @@ impl Fit {
             sin_lat: run.sin_lat,
             cos_lat: run.cos_lat,
             fit_tol: run.fit_tol,
+            sigma_by: run.sigma_by,
         }
     }
 
@@ -378,9 +379,23 @@ impl Fit {
             }
         }
         let refusal = theirs.as_ref().err().copied().unwrap_or(0);
-        Ok(Seen {
-            refusal,
-            traits: self.traits(&theirs, &oracle_after, written),
+        let mut traits = self.traits(&theirs, &oracle_after, written);
+        traits.extend(self.unknown_choice(&before));
+        Ok(Seen { refusal, traits })
+    }
+
+    /// What an unknown choice stands beside: the oracle's answer to the same call by stars.
+    fn unknown_choice(&self, before: &[Vec<f64>; 5]) -> Option<&'static str> {
+        if self.run.sigma_by <= BY_ROWS {
+            return None;
+        }
+        let mut by_stars = self.clone();
+        by_stars.run.sigma_by = BY_STARS;
+        Some(match by_stars.theirs(before).0 {
+            Ok(_) => "unknown choice alone",
+            Err(1..=4) => "unknown choice, refused earlier",
+            Err(5) => "unknown choice beside a wrong code",
+            Err(_) => "unknown choice before a later refusal",
         })
     }
 
@@ -400,6 +415,8 @@ impl Fit {
         chosen(&[
             (tails, "accepted with tails"),
             (fit.rank_info.is_deficient(), "deficient"),
+            (self.run.sigma_by == BY_STARS, "by stars"),
+            (self.run.sigma_by == BY_ROWS, "by rows"),
             (nan, "not numbers"),
             (self.mode != SINGLE && report.converged, "converged"),
             (self.mode != SINGLE && !report.converged, "not converged"),

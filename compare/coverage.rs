@@ -13,10 +13,15 @@ struct Expected {
     traits: Vec<&'static str>,
 }
 
-const OF_FITS: [&str; 7] = [
+const OF_FITS: [&str; 12] = [
     "accepted with tails",
     "refused with buffers to keep",
     "deficient",
+    "by stars",
+    "by rows",
+    "unknown choice alone",
+    "unknown choice, refused earlier",
+    "unknown choice before a later refusal",
     "not numbers",
     "with fixed terms",
     "30 sweeps, not settled",

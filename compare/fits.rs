@@ -1,6 +1,7 @@
 //! Calls of the fits: the regimes of the stored vectors, and more of each.
 
 use crate::call::{Call, Fit};
+use oracle::questions::{BY_ROWS, BY_STARS};
 use oracle::vectors::angles;
 use oracle::vectors::iterated::{self, choose_options, far_start, nan_start, outliers, step_norms};
 use oracle::vectors::random::Random;
@@ -35,7 +36,7 @@ const fn iterated_only(name: &'static str, weight: usize, make: Make) -> Regime 
     }
 }
 
-pub const REGIMES: [Regime; 40] = [
+pub const REGIMES: [Regime; 43] = [
     both("real", 200, |maker, mode| maker.real(mode, 6, 12)),
     both("each name", 40, each_name),
     both("extreme numbers", 120, |maker, mode| maker.extreme(mode)),
@@ -74,7 +75,7 @@ pub const REGIMES: [Regime; 40] = [
         choose_options(maker, &mut case);
         case
     }),
-    iterated_only("limit 1,000", 4, long),
+    iterated_only("limit 1,000", 12, long),
     both("a length off", 20, |maker, mode| {
         let sort = maker.random.below(5);
         let by = maker.random.pick(&[-1, 1, -1, 1, -16, 16, -37]);
@@ -121,6 +122,23 @@ pub const REGIMES: [Regime; 40] = [
         let asked = asked(mode);
         maker.faulty(&[mode], |maker, case| maker.several_faults(case, asked))
     }),
+    both("an unknown choice", 10, |maker, mode| {
+        let mut case = maker.real(mode, 6, 12);
+        unknown_choice(maker, &mut case);
+        case
+    }),
+    both("an unknown choice and a fault", 30, |maker, mode| {
+        let number = maker.random.pick(asked(mode));
+        let mut case = one_fault(maker, mode, number);
+        unknown_choice(maker, &mut case);
+        case
+    }),
+    both("an unknown choice and several faults", 20, |maker, mode| {
+        maker.faulty(&[mode], |maker, case| {
+            maker.several_faults(case, asked(mode));
+            unknown_choice(maker, case);
+        })
+    }),
     both("names refused for different reasons", 20, |maker, mode| {
         maker.faulty(&[mode], Maker::refused_names)
     }),
@@ -150,6 +168,10 @@ pub fn asked(mode: u8) -> &'static [u8] {
 
 fn one_fault(maker: &mut Maker, mode: u8, number: u8) -> Case {
     maker.faulty(&[mode], |maker, case| maker.fault(case, number))
+}
+
+fn unknown_choice(maker: &mut Maker, case: &mut Case) {
+    case.run.sigma_by = maker.random.within(2, 255) as u8;
 }
 
 /// A name alone on few stars, or beside IH and ID.
@@ -277,9 +299,12 @@ pub fn some(maker: &mut Maker) -> (&'static str, Case) {
     unreachable!("below the sum of the weights")
 }
 
-/// The call of a case whose sheets are in the pool.
+/// The call of a case whose sheets are in the pool, by rows or by stars where its choice is known.
 pub fn call(case: Case, pool: &Pool, random: &mut Random) -> Call {
-    let run = case.lent(pool);
+    let mut run = case.lent(pool);
+    if run.sigma_by <= BY_ROWS {
+        run.sigma_by = random.pick(&[BY_STARS, BY_ROWS]);
+    }
     Call::Fit(Box::new(Fit {
         mode: case.mode,
         run,

@@ -70,6 +70,7 @@ fn put_fit(out: &mut String, fit: &Fit) {
     floats(out, "sheet", &run.sheets);
     floats(out, "latitude", &[run.sin_lat, run.cos_lat]);
     floats(out, "fit_tol", &[run.fit_tol]);
+    bytes(out, "sigma_by", &[run.sigma_by]);
     wholes(out, "max_iter", &[options.max_iter]);
     *out += "# tol_rad, initial_lambda, lambda_up, lambda_down, huber_k\n";
     floats(
@@ -196,6 +197,7 @@ impl<'a> Parts<'a> {
         let [mode] = Self::array(self.bytes("mode"))?;
         let [sin_lat, cos_lat] = Self::array(self.floats("latitude"))?;
         let [fit_tol] = Self::array(self.floats("fit_tol"))?;
+        let [sigma_by] = Self::array(self.bytes("sigma_by"))?;
         let [max_iter] = Self::array(self.wholes("max_iter"))?;
         let [tol_rad, initial_lambda, lambda_up, lambda_down, huber_k] =
             Self::array(self.floats("options"))?;
@@ -213,6 +215,7 @@ impl<'a> Parts<'a> {
                 sin_lat,
                 cos_lat,
                 fit_tol,
+                sigma_by,
             },
             options: IterOptions {
                 max_iter,

@@ -32,7 +32,7 @@ static const char *const REFUSALS[] = {
     "a list has the wrong length",
     "a buffer is too short",
     "a number is not finite",
-    "a pier code or a fixed flag is unknown",
+    "a pier code, a fixed flag or sigma_by is unknown",
     "max_iter is above 1,000",
     "a slot holds no name",
     "a term of an alt-azimuth mount",
@@ -78,12 +78,14 @@ static bool read_run(const char *path) {
     return true;
 }
 
+/* Sigma is by stars, as version 1 of the file means it. */
 static pointing_fit_answer fit(void) {
     if (mode == 0)
-        return pointing_fit_model(names, 16 * m, fixed, m, start, m, dh, n, dd, n, pier, n, sheets, 37 * n, sin_lat, cos_lat, fit_tol, coefficients,
-                                  TERMS, change, TERMS, sigma, TERMS, diagnostics, 3 * STARS, scratch, SCRATCH);
-    return pointing_fit_model_iterated(names, 16 * m, fixed, m, start, m, dh, n, dd, n, pier, n, sheets, 37 * n, sin_lat, cos_lat, fit_tol, options,
-                                       coefficients, TERMS, change, TERMS, sigma, TERMS, diagnostics, 3 * STARS, scratch, SCRATCH);
+        return pointing_fit_model(names, 16 * m, fixed, m, start, m, dh, n, dd, n, pier, n, sheets, 37 * n, sin_lat, cos_lat, fit_tol, POINTING_BY_STARS,
+                                  coefficients, TERMS, change, TERMS, sigma, TERMS, diagnostics, 3 * STARS, scratch, SCRATCH);
+    return pointing_fit_model_iterated(names, 16 * m, fixed, m, start, m, dh, n, dd, n, pier, n, sheets, 37 * n, sin_lat, cos_lat, fit_tol,
+                                       POINTING_BY_STARS, options, coefficients, TERMS, change, TERMS, sigma, TERMS, diagnostics, 3 * STARS, scratch,
+                                       SCRATCH);
 }
 
 static unsigned long long bits(double x) {

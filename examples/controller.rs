@@ -5,7 +5,7 @@
 #[path = "../ffi/pointing.rs"]
 mod pointing;
 
-use pointing::{Buffers, FitAnswer, FitOptions, Lent, Point, NAME, SHEET};
+use pointing::{Buffers, FitAnswer, FitOptions, Lent, Point, BY_STARS, NAME, SHEET};
 use std::process::ExitCode;
 
 const TERMS: usize = 16;
@@ -20,7 +20,7 @@ const REFUSALS: [&str; 14] = [
     "a list has the wrong length",
     "a buffer is too short",
     "a number is not finite",
-    "a pier code or a fixed flag is unknown",
+    "a pier code, a fixed flag or sigma_by is unknown",
     "max_iter is above 1,000",
     "a slot holds no name",
     "a term of an alt-azimuth mount",
@@ -104,6 +104,7 @@ fn read_run(path: &str) -> Option<Run> {
     })
 }
 
+/// Sigma is by stars, as version 1 of the file means it.
 fn fit(run: &Run) -> Fit {
     let (m, n) = (run.start.len(), run.dh.len());
     let [mut coefficients, mut change, mut sigma] = [(); 3].map(|()| vec![0.0; m]);
@@ -125,6 +126,7 @@ fn fit(run: &Run) -> Fit {
         sin_lat: run.sin_lat,
         cos_lat: run.cos_lat,
         fit_tol: run.fit_tol,
+        sigma_by: BY_STARS,
     };
     let answer = match run.mode {
         0 => pointing::fit_model(&lent, &mut buffers),

@@ -1,8 +1,9 @@
-//! Prints a C file that asserts of each struct of `include/pointing.h` the size and the places that it has in `pointing.rs`.
+//! Prints a C file that asserts of `include/pointing.h` what `pointing.rs` has: of each constant its value, of each struct its size and places.
 
 mod pointing;
 
 use pointing::{Breakdown, FitAnswer, FitOptions, Pair, Scratch, Term};
+use pointing::{BY_ROWS, BY_STARS, MAX_STARS, MAX_TERMS, NAME, SHEET};
 use std::mem::{offset_of, size_of};
 
 macro_rules! layout {
@@ -17,6 +18,16 @@ macro_rules! layout {
 
 fn main() {
     println!("#include \"pointing.h\"");
+    for (name, value) in [
+        ("NAME", NAME),
+        ("SHEET", SHEET),
+        ("MAX_TERMS", MAX_TERMS),
+        ("MAX_STARS", MAX_STARS),
+        ("BY_STARS", usize::from(BY_STARS)),
+        ("BY_ROWS", usize::from(BY_ROWS)),
+    ] {
+        println!("_Static_assert(POINTING_{name} == {value}, \"{name}\");");
+    }
     layout!(Scratch, "pointing_scratch", refusal, length);
     layout!(
         Term,

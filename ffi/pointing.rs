@@ -14,6 +14,9 @@ pub const SHEET: usize = 37;
 /// The most terms and stars of a fit.
 pub const MAX_TERMS: usize = 32;
 pub const MAX_STARS: usize = 1024;
+/// How a fit's sigma divides, `sigma_by`: by stars less rank, or by rows less rank, a star having two; by at least 1.
+pub const BY_STARS: u8 = 0;
+pub const BY_ROWS: u8 = 1;
 
 /// How much scratch a fit asks. `refusal` is 1 and `length` 0 where there are too many terms or stars.
 #[repr(C)]
@@ -170,6 +173,7 @@ extern "C" {
         sin_lat: f64,
         cos_lat: f64,
         fit_tol: f64,
+        sigma_by: u8,
         out: *mut f64,
         out_len: usize,
         change: *mut f64,
@@ -199,6 +203,7 @@ extern "C" {
         sin_lat: f64,
         cos_lat: f64,
         fit_tol: f64,
+        sigma_by: u8,
         options: FitOptions,
         out: *mut f64,
         out_len: usize,
@@ -229,6 +234,8 @@ pub struct Lent<'a> {
     pub cos_lat: f64,
     /// A singular value counts where it is above `fit_tol` times the largest, or above 0 where `fit_tol` is not above 0.
     pub fit_tol: f64,
+    /// `BY_STARS` or `BY_ROWS`; nothing but sigma changes with it.
+    pub sigma_by: u8,
 }
 
 /// What a fit is lent to write.
@@ -337,6 +344,7 @@ pub fn fit_model(lent: &Lent, buffers: &mut Buffers) -> FitAnswer {
             lent.sin_lat,
             lent.cos_lat,
             lent.fit_tol,
+            lent.sigma_by,
             buffers.coefficients.as_mut_ptr(),
             buffers.coefficients.len(),
             buffers.change.as_mut_ptr(),
@@ -371,6 +379,7 @@ pub fn fit_model_iterated(lent: &Lent, options: FitOptions, buffers: &mut Buffer
             lent.sin_lat,
             lent.cos_lat,
             lent.fit_tol,
+            lent.sigma_by,
             options,
             buffers.coefficients.as_mut_ptr(),
             buffers.coefficients.len(),

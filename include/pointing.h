@@ -8,7 +8,7 @@
  *       numbers for each hour-angle difference; 16 bytes for one name, 37 numbers for one point
  *    3  buffers long enough
  *    4  every lent number finite
- *    5  pier codes 0 to 2, fixed flags 0 or 1
+ *    5  pier codes 0 to 2, fixed flags 0 or 1, sigma_by 0 or 1
  *    6  max_iter at most 1,000
  *    7  each slot holds a name: 1 to 16 bytes below 128, none zero, then zeros (7 to 10 are put to one name before the next)
  *    8  no term of an alt-azimuth mount: IA IE CA NPAE AN AW
@@ -69,6 +69,9 @@ extern "C" {
 #define POINTING_MAX_SCRATCH POINTING_SCRATCH(POINTING_MAX_TERMS, POINTING_MAX_STARS)
 
 enum pointing_pier { POINTING_UNKNOWN = 0, POINTING_EAST = 1, POINTING_WEST = 2 };
+
+/* How sigma divides: by stars less rank, or by rows less rank, a star having two; by at least 1. */
+enum pointing_sigma_by { POINTING_BY_STARS = 0, POINTING_BY_ROWS = 1 };
 
 /* Whether this thread has the floating-point environment that the library counts on. In MXCSR, which rules all its operations, bits 13 and 14 are
  * the rounding, 0 to nearest; 15 and 6 flush subnormal results and operands; 7 to 12 mask the exceptions. The flags below them don't count. */
@@ -151,21 +154,26 @@ typedef struct {
  * asks questions 1 to 5 and 7 to 13, the iterated fit 1 to 13.
  *
  * Read: m names; m fixed flags (0 free, 1 fixed); m start coefficients; n differences in hour angle and n in declination, observed less commanded;
- * n pier codes; n sheets; fit_tol: a singular value counts where it is above fit_tol times the largest, or above 0 where fit_tol is not above 0.
+ * n pier codes; n sheets; fit_tol: a singular value counts where it is above fit_tol times the largest, or above 0 where fit_tol is not above 0;
+ * sigma_by: how sigma divides.
  * A fixed term's coefficient stays what it is: the iterated fit keeps its bits, the single step adds 0 to it, so that -0 becomes +0.
  * Written, where accepted: m coefficients to out, m changes from the start to change, m to sigma, 3 n to diagnostics (residual on the sky, leverage,
- * studentized residual for each star), zeros to the scratch asked for. Places behind these are kept. */
+ * studentized residual for each star), zeros to the scratch asked for. Places behind these are kept.
+ *
+ * A free term's sigma is sqrt(|s2 * c|), with c its place on the covariance diagonal; a fixed term's is 0. s2 is the sum of the squares of the last
+ * solve's residuals, two for each star, divided by n - rank (POINTING_BY_STARS, as the Rust does) or by 2 n - rank (POINTING_BY_ROWS, the equations
+ * less the rank), and by 1 where that is below 1. Nothing else that a fit answers or writes changes with sigma_by. */
 pointing_fit_answer pointing_fit_model(const uint8_t *names, size_t names_len, const uint8_t *fixed, size_t fixed_len, const double *coefficients,
                                        size_t coefficients_len, const double *dh, size_t dh_len, const double *dd, size_t dd_len,
                                        const uint8_t *pier, size_t pier_len, const double *sheets, size_t sheets_len, double sin_lat,
-                                       double cos_lat, double fit_tol, double *out, size_t out_len, double *change, size_t change_len,
-                                       double *sigma, size_t sigma_len, double *diagnostics, size_t diagnostics_len, double *scratch,
-                                       size_t scratch_len);
+                                       double cos_lat, double fit_tol, uint8_t sigma_by, double *out, size_t out_len, double *change,
+                                       size_t change_len, double *sigma, size_t sigma_len, double *diagnostics, size_t diagnostics_len,
+                                       double *scratch, size_t scratch_len);
 
 pointing_fit_answer pointing_fit_model_iterated(const uint8_t *names, size_t names_len, const uint8_t *fixed, size_t fixed_len,
                                                 const double *coefficients, size_t coefficients_len, const double *dh, size_t dh_len,
                                                 const double *dd, size_t dd_len, const uint8_t *pier, size_t pier_len, const double *sheets,
-                                                size_t sheets_len, double sin_lat, double cos_lat, double fit_tol,
+                                                size_t sheets_len, double sin_lat, double cos_lat, double fit_tol, uint8_t sigma_by,
                                                 pointing_fit_options options, double *out, size_t out_len, double *change, size_t change_len,
                                                 double *sigma, size_t sigma_len, double *diagnostics, size_t diagnostics_len, double *scratch,
                                                 size_t scratch_len);

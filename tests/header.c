@@ -1,26 +1,27 @@
-/* Tests what include/pointing.h says at the edges: null pointers of length 0, fixed coefficients of -0, the length of scratch, and what a fit reports of
- * itself. */
+/* Tests what include/pointing.h says at the edges: null pointers of length 0, fixed coefficients of -0, the length of scratch, what a fit reports of
+ * itself, and sigma by stars and by rows. */
 
 #include "stars.h"
 
 static pointing_fit_answer without_anything(void) {
-    return pointing_fit_model(NULL, 0, NULL, 0, NULL, 0, NULL, 0, NULL, 0, NULL, 0, NULL, 0, 0.5, 0.8, 1e-12, NULL, 0, NULL, 0, NULL, 0, NULL, 0, NULL, 0);
+    return pointing_fit_model(NULL, 0, NULL, 0, NULL, 0, NULL, 0, NULL, 0, NULL, 0, NULL, 0, 0.5, 0.8, 1e-12, POINTING_BY_STARS, NULL, 0, NULL, 0, NULL, 0,
+                              NULL, 0, NULL, 0);
 }
 
 static pointing_fit_answer without_anything_iterated(void) {
-    return pointing_fit_model_iterated(NULL, 0, NULL, 0, NULL, 0, NULL, 0, NULL, 0, NULL, 0, NULL, 0, 0.5, 0.8, 1e-12, options, NULL, 0, NULL, 0, NULL, 0,
-                                       NULL, 0, NULL, 0);
+    return pointing_fit_model_iterated(NULL, 0, NULL, 0, NULL, 0, NULL, 0, NULL, 0, NULL, 0, NULL, 0, 0.5, 0.8, 1e-12, POINTING_BY_STARS, options, NULL, 0,
+                                       NULL, 0, NULL, 0, NULL, 0, NULL, 0);
 }
 
 /* m terms of the run, and no star. */
 static pointing_fit_answer without_stars(size_t m) {
-    return pointing_fit_model(names, 16 * m, fixed, m, start, m, NULL, 0, NULL, 0, NULL, 0, NULL, 0, 0.5, 0.8, 1e-12, out, M, change, M, sigma, M, NULL, 0,
-                              scratch, SCRATCH);
+    return pointing_fit_model(names, 16 * m, fixed, m, start, m, NULL, 0, NULL, 0, NULL, 0, NULL, 0, 0.5, 0.8, 1e-12, POINTING_BY_STARS, out, M, change, M,
+                              sigma, M, NULL, 0, scratch, SCRATCH);
 }
 
 static pointing_fit_answer without_buffers(void) {
-    return pointing_fit_model(names, 16 * M, fixed, M, start, M, dh, N, dd, N, pier, N, sheets, 37 * N, 0.5, 0.8, 1e-12, NULL, 0, NULL, 0, NULL, 0, NULL, 0,
-                              NULL, 0);
+    return pointing_fit_model(names, 16 * M, fixed, M, start, M, dh, N, dd, N, pier, N, sheets, 37 * N, 0.5, 0.8, 1e-12, POINTING_BY_STARS, NULL, 0, NULL, 0,
+                              NULL, 0, NULL, 0, NULL, 0);
 }
 
 static void null_fits(void) {
@@ -68,8 +69,8 @@ static double lent[SCRATCH + 2 * M * N];
 
 static pointing_fit_answer in_scratch(size_t length) {
     for (int i = 0; i < SCRATCH + 2 * M * N; i++) lent[i] = 7;
-    return pointing_fit_model(names, 16 * M, fixed, M, start, M, dh, N, dd, N, pier, N, sheets, 37 * N, 0.5, 0.8, 1e-12, out, M, change, M, sigma, M,
-                              diagnostics, 3 * N, lent, length);
+    return pointing_fit_model(names, 16 * M, fixed, M, start, M, dh, N, dd, N, pier, N, sheets, 37 * N, 0.5, 0.8, 1e-12, POINTING_BY_STARS, out, M,
+                              change, M, sigma, M, diagnostics, 3 * N, lent, length);
 }
 
 /* Whether so many places of it were made zeros, and no more. */
@@ -121,10 +122,10 @@ static pointing_fit_answer of_two(const char *first, const char *second, bool it
     uint8_t two[2 * POINTING_NAME] = {0};
     memcpy(two, first, strlen(first)), memcpy(two + POINTING_NAME, second, strlen(second));
     if (iterate)
-        return pointing_fit_model_iterated(two, 32, fixed, 2, start, 2, dh, N, dd, N, pier, N, sheets, 37 * N, 0.5, 0.8, 1e-12, options, out, M, change, M,
-                                           sigma, M, diagnostics, 3 * N, scratch, SCRATCH);
-    return pointing_fit_model(two, 32, fixed, 2, start, 2, dh, N, dd, N, pier, N, sheets, 37 * N, 0.5, 0.8, 1e-12, out, M, change, M, sigma, M,
-                              diagnostics, 3 * N, scratch, SCRATCH);
+        return pointing_fit_model_iterated(two, 32, fixed, 2, start, 2, dh, N, dd, N, pier, N, sheets, 37 * N, 0.5, 0.8, 1e-12, POINTING_BY_STARS, options,
+                                           out, M, change, M, sigma, M, diagnostics, 3 * N, scratch, SCRATCH);
+    return pointing_fit_model(two, 32, fixed, 2, start, 2, dh, N, dd, N, pier, N, sheets, 37 * N, 0.5, 0.8, 1e-12, POINTING_BY_STARS, out, M, change, M,
+                              sigma, M, diagnostics, 3 * N, scratch, SCRATCH);
 }
 
 /* Counts that follow from docs/SCOPE.md 6.2. IH and ID have no row in common: no turn. FO twice: zeta is 0, so that one turn makes the first column zeros.
@@ -146,6 +147,149 @@ static void sweeps(void) {
     }
 }
 
+/* A call on the four stars of docs/SCOPE.md 12.1, as it stands there or with one fault. */
+typedef struct {
+    uint8_t no; /* the question that says no, 0 none */
+    const char *what;
+    size_t m, n, dds, places; /* terms, stars, declination differences, places for sigma */
+    double first, tol_rad;    /* the first star's difference in declination, an option */
+    uint8_t pier, fixed;      /* the first star's code, the first term's flag; further terms are fixed */
+    const char *name;         /* of every term */
+    size_t max_iter;
+} four_call;
+
+/* The last two faults are of options, and so of the iterated fit alone. */
+enum { CALLS = 16, OF_OPTIONS = 2 };
+
+static const four_call calls[CALLS] = {
+    /*                                            m   n  dds  places  first  tol_rad  pier  fixed    name  max_iter */
+    {0,  "four stars",                           1,  4,   4,      M,   -10,    1e-6,    1,     0,   "ID",        50},
+    {1,  "33 terms",                            33,  4,   4,      M,   -10,    1e-6,    1,     0,   "ID",        50},
+    {2,  "three declination differences",        1,  4,   3,      M,   -10,    1e-6,    1,     0,   "ID",        50},
+    {3,  "no place for sigma",                   1,  4,   4,      0,   -10,    1e-6,    1,     0,   "ID",        50},
+    {4,  "a NaN among the differences",          1,  4,   4,      M,   NAN,    1e-6,    1,     0,   "ID",        50},
+    {5,  "a pier code of 3",                     1,  4,   4,      M,   -10,    1e-6,    3,     0,   "ID",        50},
+    {5,  "a fixed flag of 2",                    1,  4,   4,      M,   -10,    1e-6,    1,     2,   "ID",        50},
+    {7,  "an empty name",                        1,  4,   4,      M,   -10,    1e-6,    1,     0,     "",        50},
+    {8,  "an alt-azimuth term",                  1,  4,   4,      M,   -10,    1e-6,    1,     0,   "IA",        50},
+    {9,  "an unknown name",                      1,  4,   4,      M,   -10,    1e-6,    1,     0,  "TX0",        50},
+    {10, "a harmonic that is not well formed",   1,  4,   4,      M,   -10,    1e-6,    1,     0,  "HHS",        50},
+    {11, "no term",                              0,  4,   4,      M,   -10,    1e-6,    1,     0,   "ID",        50},
+    {12, "no free term",                         1,  4,   4,      M,   -10,    1e-6,    1,     1,   "ID",        50},
+    {13, "no star",                              1,  0,   0,      M,   -10,    1e-6,    1,     0,   "ID",        50},
+    {4,  "a NaN among the options",              1,  4,   4,      M,   -10,     NAN,    1,     0,   "ID",        50},
+    {6,  "max_iter 1,001",                       1,  4,   4,      M,   -10,    1e-6,    1,     0,   "ID",      1001},
+};
+
+static uint8_t four_names[POINTING_NAME * 33], four_fixed[33];
+static double four_start[33];
+
+/* Lays out stars and terms: sines and tan 0, cosines 1; differences 0 and -10, -20, -10, -20; starts 0. */
+static void lay(const four_call *call) {
+    for (int i = 0; i < 4; i++) {
+        for (int k = 0; k < 37; k++) sheets[37 * i + k] = k % 2;
+        dh[i] = 0, dd[i] = i % 2 == 0 ? -10 : -20, pier[i] = POINTING_EAST;
+    }
+    dd[0] = call->first, pier[0] = call->pier;
+    memset(four_names, 0, sizeof four_names);
+    for (int j = 0; j < 33; j++) memcpy(four_names + 16 * j, call->name, strlen(call->name)), four_fixed[j] = j == 0 ? call->fixed : 1;
+}
+
+/* All that a fit may write, as it stands. */
+typedef struct {
+    double out[M], change[M], sigma[M], diagnostics[3 * N], scratch[SCRATCH];
+} buffers;
+
+static buffers written(void) {
+    buffers now;
+    memcpy(now.out, out, sizeof out), memcpy(now.change, change, sizeof change), memcpy(now.sigma, sigma, sizeof sigma);
+    memcpy(now.diagnostics, diagnostics, sizeof diagnostics), memcpy(now.scratch, scratch, sizeof scratch);
+    return now;
+}
+
+/* Puts 7 in every place of them. */
+static buffers unwritten(void) {
+    for (int j = 0; j < M; j++) out[j] = change[j] = sigma[j] = 7;
+    for (int i = 0; i < 3 * N; i++) diagnostics[i] = 7;
+    for (int i = 0; i < SCRATCH; i++) scratch[i] = 7;
+    return written();
+}
+
+static bool equal(buffers a, buffers b) { return memcmp(&a, &b, sizeof a) == 0; }
+
+/* The fit, in buffers that hold 7 before. The iterated one has no damping, so that its trials make the single step's numbers. */
+static pointing_fit_answer of_four(const four_call *call, uint8_t sigma_by, bool iterate) {
+    const size_t m = call->m, n = call->n;
+    const pointing_fit_options undamped = {call->max_iter, call->tol_rad, 0, 10, 10, false, 1.345};
+    lay(call);
+    unwritten();
+    if (iterate)
+        return pointing_fit_model_iterated(four_names, 16 * m, four_fixed, m, four_start, m, dh, n, dd, call->dds, pier, n, sheets, 37 * n, 0.5, 0.8, 1e-12,
+                                           sigma_by, undamped, out, M, change, M, sigma, call->places, diagnostics, 3 * N, scratch, SCRATCH);
+    return pointing_fit_model(four_names, 16 * m, four_fixed, m, four_start, m, dh, n, dd, call->dds, pier, n, sheets, 37 * n, 0.5, 0.8, 1e-12, sigma_by,
+                              out, M, change, M, sigma, call->places, diagnostics, 3 * N, scratch, SCRATCH);
+}
+
+static bool same(pointing_fit_answer a, pointing_fit_answer b) {
+    return a.refusal == b.refusal && bits(a.sky_rms) == bits(b.sky_rms) && bits(a.popn_sd) == bits(b.popn_sd) && a.n_free == b.n_free &&
+           a.rank == b.rank && bits(a.sigma_max) == bits(b.sigma_max) && bits(a.sigma_min) == bits(b.sigma_min) && bits(a.tol) == bits(b.tol) &&
+           a.iterations == b.iterations && a.converged == b.converged && bits(a.final_lambda) == bits(b.final_lambda) &&
+           bits(a.final_step_norm) == bits(b.final_step_norm) && a.sweeps == b.sweeps && a.settled == b.settled;
+}
+
+/* Whether the first term's sigma is as given by stars and by rows, and nothing else differs. The buffers are left as by rows. */
+static bool has_sigmas(const four_call *call, bool iterate, double by_stars, double by_rows) {
+    const pointing_fit_answer of_stars = of_four(call, POINTING_BY_STARS, iterate);
+    buffers stars = written();
+    const pointing_fit_answer of_rows = of_four(call, POINTING_BY_ROWS, iterate);
+    const bool held = of_stars.refusal == 0 && bits(stars.sigma[0]) == bits(by_stars) && bits(sigma[0]) == bits(by_rows);
+    stars.sigma[0] = by_rows;
+    return held && same(of_stars, of_rows) && equal(stars, written());
+}
+
+/* Sigmas that follow from docs/SCOPE.md 9.3. ID's column on the four stars is -1 four times, so that its covariance is 1/4; at 15 the residuals are 5, -5, 5
+ * and -5, and their squares' sum 100. IH's on one star is -1, and the residual is all of -10, in declination: the divisor is 1 by stars and by rows. */
+static void sigmas(void) {
+    const double by_stars = sqrt(100.0 / 3 * 0.25), by_rows = sqrt(100.0 / 7 * 0.25);
+    const size_t trials[] = {0, 1, 50};
+    for (int i = 0; i < 4; i++) {
+        const bool iterate = i > 0;
+        four_call call = calls[0];
+        call.max_iter = iterate ? trials[i - 1] : 50;
+        expect(has_sigmas(&call, iterate, by_stars, by_rows), "four stars have the divisor 3 by stars and 7 by rows, and else the same fit");
+        const pointing_fit_answer said = of_four(&call, POINTING_BY_ROWS, iterate);
+        expect(out[0] == 15 && said.rank == 1 && said.sky_rms == 5 && diagnostics[1] == 0.25, "by rows too ID is 15, the sky RMS 5, a leverage 0.25");
+        call.m = 2;
+        expect(has_sigmas(&call, iterate, by_stars, by_rows) && bits(sigma[1]) == 0, "a fixed term's sigma is 0 by stars and by rows");
+        call.m = call.n = call.dds = 1, call.name = "IH";
+        expect(has_sigmas(&call, iterate, 10, 10), "one star has the divisor 1 by stars and by rows");
+    }
+}
+
+/* Whether a call is answered in its order: a choice that is neither by stars nor by rows is question 5's, and a refusal leaves every buffer as it was. */
+static bool answered(const four_call *call, uint8_t sigma_by, bool iterate) {
+    static pointing_fit_answer none;
+    none.refusal = sigma_by > POINTING_BY_ROWS && (call->no == 0 || call->no > 5) ? 5 : call->no;
+    const pointing_fit_answer said = of_four(call, sigma_by, iterate);
+    if (none.refusal == 0) return said.refusal == 0;
+    const buffers left = written();
+    return same(said, none) && equal(left, unwritten());
+}
+
+/* Every choice beside every fault. */
+static void choices(void) {
+    for (int i = 0; i < 2; i++) {
+        const bool iterate = i == 1;
+        for (int k = 0; k < (iterate ? CALLS : CALLS - OF_OPTIONS); k++) {
+            bool held = true;
+            for (int choice = 0; choice < 256; choice++) held = answered(&calls[k], (uint8_t)choice, iterate) && held;
+            char what[100];
+            snprintf(what, sizeof what, "%s, %s: every choice is answered in its order", iterate ? "iterated" : "single step", calls[k].what);
+            expect(held, what);
+        }
+    }
+}
+
 int main(void) {
     null_fits();
     null_points();
@@ -153,5 +297,7 @@ int main(void) {
     scratch_lengths();
     reports();
     sweeps();
+    sigmas();
+    choices();
     return failures != 0;
 }

@@ -121,6 +121,10 @@ fn terms(out: &mut String, fitted: &Fitted) {
         );
     }
     *out += "Coefficients, sigmas and starts are in arcseconds (\").\n";
+    *out += &format!(
+        "Sigmas are by stars: the squared residuals' sum is divided by stars less rank, at least 1 (here {}).\n",
+        fitted.run.stars.len().saturating_sub(fitted.fit.rank).max(1)
+    );
 }
 
 fn arcseconds(x: f64) -> String {

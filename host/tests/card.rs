@@ -38,6 +38,7 @@ fn the_night() {
         "Solution        settled after 6 sweeps\n",
         "Terms           6 free, 0 fixed; rank 6\n",
         "IH         -187.11\"        1.73\"          0.00\"  free   Hour angle index error\n",
+        "Sigmas are by stars: the squared residuals' sum is divided by stars less rank, at least 1 (here 24).\n",
         "Sky RMS              4.89\"",
         "Population SD        5.46\"",
         "East         15 stars  sky RMS      4.16\"",
@@ -82,6 +83,7 @@ fn document_01() {
     assert!(card.contains(
         "ID           10.00\"        0.00\"          0.00\"  free   Declination index error\n"
     ));
+    assert!(card.contains("stars less rank, at least 1 (here 1)."));
     assert!(card.contains("Population SD            -  not known: no more stars than free terms"));
 }
 
@@ -100,6 +102,7 @@ fn one_place() {
         "Solution        NOT settled: 30 sweeps made, the most\n",
         "WARNING: rank 2 is below the 6 free terms: 4 combinations of the terms can't be told",
         "WARNING: the solution did not settle: the terms were still being told apart when 30 sweeps,\n",
+        "stars less rank, at least 1 (here 8).",
     ] {
         assert!(card.contains(words), "{words}\n{card}");
     }

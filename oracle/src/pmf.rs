@@ -1,7 +1,7 @@
 //! docs/SCOPE.md 11: a PMF file in, its listing out.
 
 use crate::error::Result;
-use crate::questions::{fit_file, Run};
+use crate::questions::{fit_file, Run, BY_STARS};
 use crate::sheet::SHEET;
 use crate::solver::{FitResult, IterOptions};
 
@@ -99,6 +99,7 @@ fn fields(reader: &mut Reader, m: usize, n: usize, robust: bool) -> (Run, IterOp
         sin_lat,
         cos_lat,
         fit_tol,
+        sigma_by: BY_STARS,
     };
     for _ in 0..n {
         run.piers.push(reader.byte());

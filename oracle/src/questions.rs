@@ -5,13 +5,17 @@ use crate::error::Result;
 use crate::model::PointingModel;
 use crate::observation::{Observation, PierSide};
 use crate::sheet::{Latitude, Sheet, SHEET};
-use crate::solver::{self, FitInputs, FitResult, IterOptions};
+use crate::solver::{self, FitInputs, FitResult, IterOptions, SigmaBy};
 use crate::terms::{create_term, Term};
 
 pub const NAME: usize = 16;
 pub const MAX_TERMS: usize = 32;
 pub const MAX_STARS: usize = 1024;
 pub const MAX_ITER: usize = 1000;
+
+/// The codes of what sigma's divisor counts.
+pub const BY_STARS: u8 = 0;
+pub const BY_ROWS: u8 = 1;
 
 fn ask(yes: bool, number: u8) -> Result<()> {
     if yes {
@@ -110,6 +114,7 @@ pub struct Run {
     pub sin_lat: f64,
     pub cos_lat: f64,
     pub fit_tol: f64,
+    pub sigma_by: u8,
 }
 
 /// What a fit is lent to write.
@@ -193,7 +198,9 @@ impl Run {
     /// Question 5.
     fn ask_codes(&self) -> Result<()> {
         ask(
-            self.piers.iter().all(|&p| p <= 2) && self.fixed.iter().all(|&f| f <= 1),
+            self.piers.iter().all(|&p| p <= 2)
+                && self.fixed.iter().all(|&f| f <= 1)
+                && SigmaBy::from_code(self.sigma_by).is_some(),
             5,
         )
     }
@@ -226,6 +233,7 @@ impl Run {
             coefficients: &self.coefficients,
             latitude,
             fit_tol: self.fit_tol,
+            sigma_by: SigmaBy::from_code(self.sigma_by).expect("a choice"),
         })
     }
 
@@ -240,6 +248,7 @@ impl Run {
                 inputs.coefficients,
                 inputs.latitude,
                 inputs.fit_tol,
+                inputs.sigma_by,
             ),
         })
     }

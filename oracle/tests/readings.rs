@@ -36,6 +36,7 @@ fn run(names: &[&str], coefficients: &[f64], fixed: &[u8], dd: &[f64]) -> Run {
         sin_lat: 0.0,
         cos_lat: 1.0,
         fit_tol: 0.0,
+        sigma_by: BY_STARS,
     }
 }
 
@@ -185,18 +186,24 @@ fn sweeps() {
 
 #[test]
 fn four_stars() {
-    let run = run(&["ID"], &[0.0], &[0], &[-10.0, -20.0, -10.0, -20.0]);
-    let mut buffers = Buffers::exact(1, 4, 7.0);
-    buffers.scratch.push(3.0);
-    let fit = fit_model(&run, &mut buffers).unwrap();
-    assert_eq!(buffers.coefficients, [15.0]);
-    assert_eq!(fit.sky_rms, 5.0);
-    for star in buffers.diagnostics.chunks(3) {
-        assert_eq!(star[1], 0.25);
+    let mut run = run(&["ID"], &[0.0], &[0], &[-10.0, -20.0, -10.0, -20.0]);
+    for (sigma_by, divisor) in [(BY_STARS, 3.0), (BY_ROWS, 7.0)] {
+        run.sigma_by = sigma_by;
+        let mut buffers = Buffers::exact(1, 4, 7.0);
+        buffers.scratch.push(3.0);
+        let fit = fit_model(&run, &mut buffers).unwrap();
+        assert_eq!(buffers.coefficients, [15.0]);
+        assert_eq!(buffers.sigma, [(100.0_f64 / divisor * 0.25).sqrt()]);
+        assert_eq!(fit.sky_rms, 5.0);
+        for star in buffers.diagnostics.chunks(3) {
+            assert_eq!(star[1], 0.25);
+        }
+        let (tail, zeros) = buffers.scratch.split_last().unwrap();
+        assert_eq!(*tail, 3.0);
+        assert!(zeros.iter().all(|x| x.to_bits() == 0));
     }
-    let (tail, zeros) = buffers.scratch.split_last().unwrap();
-    assert_eq!(*tail, 3.0);
-    assert!(zeros.iter().all(|x| x.to_bits() == 0));
+    run.sigma_by = 2;
+    assert_eq!(single(&run).err(), Some(5));
 }
 
 #[test]

@@ -1,12 +1,14 @@
 //! The sweeps of a fit: those of its last undamped solve, counted here another way, and their first lines.
 
+mod common;
+
+use common::{of_regime, with_maker};
 use oracle::pmf::{file, listing};
 use oracle::questions::{jacobian, Point, Run, NAME};
 use oracle::sheet::SHEET;
 use oracle::solver::{solves, tried};
 use oracle::vectors::iterated::{far_start, outliers};
-use oracle::vectors::random::Random;
-use oracle::vectors::runs::{Case, Maker, Pool, ITERATED, ROBUST, SINGLE};
+use oracle::vectors::runs::{Case, Maker, ITERATED, ROBUST, SINGLE};
 
 const MODES: [u8; 3] = [SINGLE, ITERATED, ROBUST];
 
@@ -78,27 +80,12 @@ fn recounted(run: &Run) -> (usize, bool) {
     (30.min(turning + 1), turns[29] == 0)
 }
 
-fn with_maker<T>(seed: u64, work: impl FnOnce(&mut Maker) -> T) -> T {
-    let mut random = Random::new(seed);
-    let mut pool = Pool::new(&mut random, 220);
-    pool.add_near();
-    work(&mut Maker {
-        random,
-        pool: &pool,
-    })
-}
-
 fn some(maker: &mut Maker, mode: u8, sort: usize) -> Case {
     match sort % 9 {
-        0 => maker.real(mode, 6, 9),
-        1 => maker.extreme(mode),
-        2 => maker.polar(mode),
-        3 => maker.repeated(mode),
-        4 => maker.deficient(mode),
-        5 => maker.restless(mode),
         6 => maker.nearly_dependent(mode, 6, 10, 2),
         7 => maker.nearly_dependent(mode, 6, 60, 3),
-        _ => maker.real(mode, 16, 30),
+        8 => maker.real(mode, 16, 30),
+        regime => of_regime(maker, mode, regime),
     }
 }
 

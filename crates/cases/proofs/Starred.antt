@@ -17,7 +17,7 @@ use Rattle.linalg.specs.Linalg.{solved, answered, decomposed, inverses, inverse
 use Rattle.design.specs.Design as Design
 use Rattle.design.specs.Design.{kept, collectIndices, pairs, column, skyColumn, differences, skyRows, skyDifferences, subtractAll, product, predicted, scattered, weighing, stacked}
 use Rattle.validate.specs.Questions.{asked, inLimits, counts, scratchNeeded, enoughRoom, finiteSettings, finiteInput, finiteOptions, codesKnown}
-use Rattle.stats.specs.Stats.{sumSqSky, skyFrom, variance, deviation, clamped, studentizedRow, diagnostic}
+use Rattle.stats.specs.Stats.{sumSqSky, skyFrom, variance, clamped, studentizedRow, diagnostic}
 use Rattle.best.specs.ChiSquare.{chi}
 use Rattle.best.specs.Trials.{after}
 use Rattle.outcome.specs.Outcome.{finished, sigmaOf, diagnosticOf}
@@ -31,7 +31,7 @@ pub starred : Starred
 unfolding nameOf wellFormed digitsFrom unsigned components parseHarmonic readHarmonic byKnown readTerm jacobianOf pointOf isFinite abs neg add sub mul div lt
     le eq ofBits ofInt Root.sqrt table filled each sumTo sumBut dot zipWith fitOutcome asked inLimits counts scratchNeeded enoughRoom finiteInput finiteOptions
     codesKnown firstOf finished step toFit newCoefficients freeResiduals sigmaOf diagnosticOf concatTo Design.rows pairs column skyColumn differences
-    skyDifferences subtractAll product stacked sumSqSky variance deviation clamped studentizedRow diagnostic solved answered decomposed norms norm scaleOf
+    skyDifferences subtractAll product stacked sumSqSky variance clamped studentizedRow diagnostic solved answered decomposed norms norm scaleOf
     scaledColumn unitColumn columns diagonal diagonals extended inverses inverse rankTo projected xScaled solution scaledVariance covariance leverageOf
     threshold order best sweeps sweep row pair turn zetaOf tanOf cosOf iteratedOutcome lmLoop after lastSet Iterated.freeResiduals chi skyResiduals huberFrom
     lmStep moved solvedDamped predicted weighing skyRows kept collectIndices scattered finiteSettings skyFrom fittedRun actualResiduals change

@@ -1,4 +1,4 @@
--- The cases of docs/SCOPE.md 12.1 as one table. Starred there: every row but the last three, HXSHCD2, TX2 and the four stars, and the one before
+-- The cases of docs/SCOPE.md 12.1 as one table. Starred there: every row but the last five, HXSHCD2, TX2 and the four stars, and the one before
 -- them, the iterated file case.
 -- Definitions only.
 use Prim.Native.Nat.{ℕ, zero, suc, _+_, _*_}
@@ -31,18 +31,23 @@ use Rattle.solver.specs.Call.{FitInputs, Buffers, settingsOf, inputs, buffers}
 use Rattle.validate.specs.Questions.{scratchNeeded}
 use Rattle.solver.specs.Records.{defaults}
 use Rattle.solver.specs.declared.IterOptions.{IterOptions}
+use Rattle.solver.specs.declared.SigmaBy.{SigmaBy}
+use Rattle.solver.specs.declared.SigmaBy.the-variants.{Stars, Rows}
+use Rattle.stats.specs.Stats.{divisor}
 use Rattle.outcome.specs.Outcome.{Outcome}
 use Rattle.single_step.specs.SingleStep.{fitOutcome}
 use Rattle.iterated.specs.Iterated.{iteratedOutcome}
 
--- an answer of a public call: of a fit the coefficients and the rank, or the coefficients, the sky RMS and each star's leverage, or the
--- coefficients, the iterations, whether it converged, and the step norm; with the first and the last also the sweeps, and whether they settled
+-- an answer of a public call: of a fit the coefficients and the rank, or the coefficients, the sky RMS and each star's leverage, or sigma's divisor and
+-- the sigmas, or the coefficients, the iterations, whether it converged, and the step norm; with the first and the last also the sweeps, and whether they
+-- settled
 pub data Answer : Type 0 where
   reading : Reading → Answer
   jacobian : Jacobian → Answer
   refusal : ℕ → Answer
   ranked : List Float → ℕ → ℕ → Bool → Answer
   measured : List Float → Float → List Float → Answer
+  divided : ℕ → List Float → Answer
   looped : List Float → ℕ → Bool → Float → ℕ → Bool → Answer
 
 pub record Case : Type 0 where
@@ -118,8 +123,8 @@ run dd =
 abbrev pub exactRoom : ℕ → Buffers
 exactRoom n = buffers (#0 ∷ []) (#0 ∷ []) (#0 ∷ []) (replicate (3 * n) #0) (replicate (scratchNeeded 1 n) #0)
 
-abbrev pub stepped : List Float → Outcome
-stepped dd = fitOutcome (run dd) (exactRoom (length dd))
+abbrev pub stepped : SigmaBy → List Float → Outcome
+stepped by dd = fitOutcome (run dd) by (exactRoom (length dd))
 
 abbrev pub rankedBy : Fit → List Float → Answer
 rankedBy (Done r) cs = ranked cs (r .«rank_info» .rank) (r .sweeps) (r .settled)
@@ -131,7 +136,7 @@ measuredBy (Refused k) cs ls = refusal k
 
 -- the file case
 abbrev pub fileCase : Case
-fileCase = let o = stepped (neg #10 ∷ []) in record { got = rankedBy (o .answer) (o .left .coefficients); wanted = ranked (#10 ∷ []) 1 1 true }
+fileCase = let o = stepped Stars (neg #10 ∷ []) in record { got = rankedBy (o .answer) (o .left .coefficients); wanted = ranked (#10 ∷ []) 1 1 true }
 
 -- the file case iterated, with the default options but for a limit of 0
 abbrev pub atOnce : IterOptions
@@ -152,17 +157,38 @@ loopedBy (Refused k) cs = refusal k
 
 abbrev pub fileCaseIterated : Case
 fileCaseIterated =
-    let o = iteratedOutcome (run (neg #10 ∷ [])) atOnce (exactRoom 1) in
+    let o = iteratedOutcome (run (neg #10 ∷ [])) Stars atOnce (exactRoom 1) in
     record { got = loopedBy (o .answer) (o .left .coefficients); wanted = looped (#10 ∷ []) 0 false (inf false) 1 true }
 
 -- the second of each star's three diagnostics
 abbrev pub leverages : ℕ → List Float → List Float
 leverages n d = table n (λ i. at d (3 * i + 1))
 
+-- the declination differences of the four stars
+abbrev pub four : List Float
+four = neg #10 ∷ neg #20 ∷ neg #10 ∷ neg #20 ∷ []
+
 abbrev pub fourStars : Case
 fourStars =
-    let o = stepped (neg #10 ∷ neg #20 ∷ neg #10 ∷ neg #20 ∷ []) in
+    let o = stepped Stars four in
     record { got = measuredBy (o .answer) (o .left .coefficients) (leverages 4 (o .left .diagnostics)); wanted = measured (#15 ∷ []) #5 (replicate 4 quarter) }
+
+abbrev pub dividedBy : SigmaBy → ℕ → Fit → List Float → Answer
+dividedBy by n (Done r) sigmas = divided (divisor by n (r .«rank_info» .rank)) sigmas
+dividedBy by n (Refused k) sigmas = refusal k
+
+-- the four stars by either: the squares of their residuals are 100, the covariance is 1/4
+abbrev pub fourStarsBy : SigmaBy → ℕ → Float → Case
+fourStarsBy by dof sigma =
+    let o = stepped by four in
+    record { got = dividedBy by (length four) (o .answer) (o .left .sigma); wanted = divided dof (sigma ∷ []) }
+
+-- sqrt(100/3 / 4) and sqrt(100/7 / 4), rounded where the definition of sigma rounds
+abbrev pub sigmaByStars : Float
+sigmaByStars = ofBits binary64 0x4007_1811_16f4_3fe4
+
+abbrev pub sigmaByRows : Float
+sigmaByRows = ofBits binary64 0x3ffe_3cb6_6051_f5e0
 
 -- ---- the table
 
@@ -186,6 +212,8 @@ starredCases =
     (accepted (Harmonic ResultType.X) (ascii "HXSHCD2") (arrayOf (component TrigFunc.Sin Coordinate.H 1 ∷ component TrigFunc.Cos Coordinate.D 2 ∷ []))) ∷
     hasJacobian "TX2" #1 east (pairOf #0 #0) ∷
     fourStars ∷
+    fourStarsBy Stars 3 sigmaByStars ∷
+    fourStarsBy Rows 7 sigmaByRows ∷
     []
 
 -- each row's answer is what the definitions of the public calls give: proofs/Starred.antt

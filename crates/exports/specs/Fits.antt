@@ -1,17 +1,25 @@
 -- A fit's answer as a C struct, and its outcome as a C call has it. Definitions only.
 use Prim.Native.Nat.{ℕ}
 use mathlib.Core.Path.{_≡_}
+use mathlib.Core.Bool.{false, cond}
 use mathlib.Core.List.{List}
+use lib.Dec.{ltb, eqb}
 use lib.ListN.{length, take}
 use lib.Ieee.{Float}
-use mathlib.Core.Bool.{false}
 use Rattle.float.specs.Float.{#0}
 use Rattle.solver.specs.declared.Fit.{Fit}
 use Rattle.solver.specs.declared.Fit.the-variants.{Done, Refused}
 use Rattle.solver.specs.declared.FitResult.{FitResult}
 use Rattle.solver.specs.declared.IterOptions.{IterOptions}
-use Rattle.solver.specs.Call.{FitInputs, Buffers}
-use Rattle.outcome.specs.Outcome.{Outcome}
+use Rattle.solver.specs.declared.SigmaBy.{SigmaBy}
+use Rattle.solver.specs.declared.SigmaBy.the-variants.{Stars, Rows}
+use Rattle.solver.specs.declared.Sizes.{Sizes}
+use Rattle.solver.specs.Call.{FitInputs, Buffers, sizesOf}
+use Rattle.terms.specs.Questions.{firstNo}
+use Rattle.validate.specs.Questions.{numbersAsked, noOptions}
+use Rattle.outcome.specs.Outcome.{Outcome, outcome}
+use Rattle.single_step.specs.SingleStep.{fitOutcome}
+use Rattle.iterated.specs.Iterated.{iteratedOutcome}
 use Rattle.iterated.specs.Demand3.{BestOfTried}
 use Rattle.exports.specs.declared.fits.FitAnswer.{FitAnswer}
 
@@ -68,6 +76,27 @@ exported a b = record { answer = a; left = b }
 abbrev pub exportedOf : Outcome → Exported
 exportedOf o = exported (fitAnswer (o .answer)) (o .left)
 
--- demand 3 of an accepted call: what the answer's coefficients hold at the end, m of which are the set
+-- ---- what sigma is by, as a code: 0 is by stars, 1 by rows
+
+abbrev pub chosen : ℕ → SigmaBy
+chosen code = cond (eqb code 0) Stars Rows
+
+-- any other is a no to question 5, that of the codes: the number of an earlier no comes first
+abbrev pub unknownNo : FitInputs → IterOptions → Sizes → ℕ
+unknownNo l o s = firstNo (λ k. k) 5 (numbersAsked l o s)
+
+-- a call of a fit with that code
+abbrev pub byCode : ℕ → (SigmaBy → Outcome) → ℕ → Buffers → Outcome
+byCode code fit unknown b = cond (ltb code 2) (fit (chosen code)) (outcome (Refused unknown) b)
+
+abbrev pub singleStepBy : ℕ → FitInputs → Buffers → Outcome
+singleStepBy code l b = byCode code (λ by. fitOutcome l by b) (unknownNo l noOptions (sizesOf b)) b
+
+abbrev pub iteratedBy : ℕ → FitInputs → IterOptions → Buffers → Outcome
+iteratedBy code l o b = byCode code (λ by. iteratedOutcome l by o b) (unknownNo l o (sizesOf b)) b
+
+-- ---- demand 3
+
+-- of an accepted call: what the answer's coefficients hold at the end, m of which are the set
 abbrev pub BestWhereGiven : FitInputs → IterOptions → FitAnswer → List Float → Type 0
 BestWhereGiven l o a out = a .refusal ≡ 0 → BestOfTried l o (take (length (l .coefficients)) out) (a .iterations)

@@ -1,9 +1,14 @@
-// The answer of a fit as a C struct.
+// The answer of a fit as a C struct, and what sigma is by as a code.
 
 ghost use mathlib.Core.Path.{_≡_};
-ghost use Rattle.exports.specs.Fits.{givenAnswer, refusedAnswer, fitAnswer};
+ghost use Rattle.solver.specs.Call.{inputs};
+ghost use Rattle.exports.specs.Fits.{givenAnswer, refusedAnswer, fitAnswer, chosen as chosenOf, unknownNo};
 use solver::Fit;
 use solver::FitResult;
+use solver::IterOptions;
+use solver::Settings;
+use solver::SigmaBy;
+use solver::Sizes;
 
 // solver::Fit for C: 0 and the fields of a result, or the number of the question that refused the fit and zeros.
 #[repr(C)]
@@ -75,4 +80,48 @@ pub fn answer(fit: Fit) -> FitAnswer
         Fit::Done(r) => given(r),
         Fit::Refused(k) => refused(k),
     }
+}
+
+// What sigma is by, of a known code.
+pub fn chosen(code: u8) -> SigmaBy
+    ensures { λ r. ⌜ r ≡ chosenOf code ⌝ }
+{
+    if code == 0 {
+        return SigmaBy::Stars;
+    }
+    SigmaBy::Rows
+}
+
+// The refusal of a call whose code of what sigma is by is unknown: a no to question 5, after questions 1 to 4.
+pub fn unknown_code(
+    names: &[u8],
+    fixed: &[u8],
+    coefficients: &[f64],
+    dh: &[f64],
+    dd: &[f64],
+    pier: &[u8],
+    sheets: &[f64],
+    settings: Settings,
+    options: IterOptions,
+    room: Sizes,
+) -> FitAnswer
+    ensures { λ r. ⌜ r ≡ refusedAnswer (unknownNo (inputs (now (names .entry)) (now (fixed .entry)) (now (coefficients .entry)) (now (dh .entry))
+        (now (dd .entry)) (now (pier .entry)) (now (sheets .entry)) settings) options room) ⌝ }
+{
+    let no = validate::numbers_refusal(
+        names,
+        fixed,
+        coefficients,
+        dh,
+        dd,
+        pier,
+        sheets,
+        settings,
+        options,
+        room,
+    );
+    if no != 0 {
+        return refused(no);
+    }
+    refused(5)
 }

@@ -9,12 +9,10 @@ ghost use Rattle.terms.specs.Names.{readTerm};
 ghost use Rattle.terms.specs.Jacobian.{jacobianOf};
 ghost use Rattle.model.specs.Correction.{correctionAt, breakdownAt};
 ghost use Rattle.solver.specs.Call.{settingsOf, inputs, buffers};
-ghost use Rattle.single_step.specs.SingleStep.{fitOutcome};
-ghost use Rattle.iterated.specs.Iterated.{iteratedOutcome};
 ghost use Rattle.exports.specs.Scratch.{scratchLength};
 ghost use Rattle.exports.specs.Term.{termAnswer};
 ghost use Rattle.exports.specs.Point.{pairAnswer, correctionAnswer};
-ghost use Rattle.exports.specs.Fits.{exported, exportedOf, BestWhereGiven};
+ghost use Rattle.exports.specs.Fits.{exported, exportedOf, singleStepBy, iteratedBy, BestWhereGiven};
 
 mod fits;
 mod point;
@@ -22,6 +20,8 @@ mod term;
 
 use crate::fits::FitAnswer;
 use crate::fits::answer;
+use crate::fits::chosen;
+use crate::fits::unknown_code;
 use crate::point::PairAnswer;
 use crate::point::correction_answer;
 use crate::point::pair_answer;
@@ -34,6 +34,7 @@ use model::point::breakdown_at;
 use model::point::correction_at;
 use solver::IterOptions;
 use solver::Settings;
+use solver::Sizes;
 
 // The square root, correctly rounded.
 #[no_mangle]
@@ -140,6 +141,7 @@ pub extern "C" fn pointing_fit_model(
     sin_lat: f64,
     cos_lat: f64,
     fit_tol: f64,
+    sigma_by: u8,
     out: &mut [f64],
     change: &mut [f64],
     sigma: &mut [f64],
@@ -147,7 +149,7 @@ pub extern "C" fn pointing_fit_model(
     scratch: &mut [f64],
 ) -> FitAnswer
     ensures { λ r. ⌜ exported r (buffers (now (out .exit)) (now (change .exit)) (now (sigma .exit)) (now (diagnostics .exit)) (now (scratch .exit)))
-        ≡ exportedOf (fitOutcome (inputs (now (names .entry)) (now (fixed .entry)) (now (coefficients .entry)) (now (dh .entry)) (now (dd .entry))
+        ≡ exportedOf (singleStepBy «sigma_by» (inputs (now (names .entry)) (now (fixed .entry)) (now (coefficients .entry)) (now (dh .entry)) (now (dd .entry))
         (now (pier .entry)) (now (sheets .entry)) (settingsOf «sin_lat» «cos_lat» «fit_tol»))
         (buffers (now (out .entry)) (now (change .entry)) (now (sigma .entry)) (now (diagnostics .entry)) (now (scratch .entry)))) ⌝ }
 {
@@ -156,6 +158,27 @@ pub extern "C" fn pointing_fit_model(
         cos_lat,
         fit_tol,
     };
+    if sigma_by > 1 {
+        let room = Sizes {
+            coefficients: out.len(),
+            change: change.len(),
+            sigma: sigma.len(),
+            diagnostics: diagnostics.len(),
+            scratch: scratch.len(),
+        };
+        return unknown_code(
+            names,
+            fixed,
+            coefficients,
+            dh,
+            dd,
+            pier,
+            sheets,
+            settings,
+            validate::no_options(),
+            room,
+        );
+    }
     answer(single_step::fit_model(
         names,
         fixed,
@@ -165,6 +188,7 @@ pub extern "C" fn pointing_fit_model(
         pier,
         sheets,
         settings,
+        chosen(sigma_by),
         out,
         change,
         sigma,
@@ -186,6 +210,7 @@ pub extern "C" fn pointing_fit_model_iterated(
     sin_lat: f64,
     cos_lat: f64,
     fit_tol: f64,
+    sigma_by: u8,
     options: IterOptions,
     out: &mut [f64],
     change: &mut [f64],
@@ -194,7 +219,7 @@ pub extern "C" fn pointing_fit_model_iterated(
     scratch: &mut [f64],
 ) -> FitAnswer
     ensures whole { λ r. ⌜ exported r (buffers (now (out .exit)) (now (change .exit)) (now (sigma .exit)) (now (diagnostics .exit)) (now (scratch .exit)))
-        ≡ exportedOf (iteratedOutcome (inputs (now (names .entry)) (now (fixed .entry)) (now (coefficients .entry)) (now (dh .entry)) (now (dd .entry))
+        ≡ exportedOf (iteratedBy «sigma_by» (inputs (now (names .entry)) (now (fixed .entry)) (now (coefficients .entry)) (now (dh .entry)) (now (dd .entry))
         (now (pier .entry)) (now (sheets .entry)) (settingsOf «sin_lat» «cos_lat» «fit_tol»))
         options (buffers (now (out .entry)) (now (change .entry)) (now (sigma .entry)) (now (diagnostics .entry)) (now (scratch .entry)))) ⌝ }
     ensures best { λ r. ⌜ BestWhereGiven (inputs (now (names .entry)) (now (fixed .entry)) (now (coefficients .entry)) (now (dh .entry)) (now (dd .entry))
@@ -206,6 +231,27 @@ pub extern "C" fn pointing_fit_model_iterated(
         cos_lat,
         fit_tol,
     };
+    if sigma_by > 1 {
+        let room = Sizes {
+            coefficients: out.len(),
+            change: change.len(),
+            sigma: sigma.len(),
+            diagnostics: diagnostics.len(),
+            scratch: scratch.len(),
+        };
+        return unknown_code(
+            names,
+            fixed,
+            coefficients,
+            dh,
+            dd,
+            pier,
+            sheets,
+            settings,
+            options,
+            room,
+        );
+    }
     answer(iterated::fit_model_iterated(
         names,
         fixed,
@@ -215,6 +261,7 @@ pub extern "C" fn pointing_fit_model_iterated(
         pier,
         sheets,
         settings,
+        chosen(sigma_by),
         options,
         out,
         change,

@@ -24,6 +24,7 @@ use Rattle.solver.specs.declared.Fit.{Fit}
 use Rattle.solver.specs.declared.Fit.the-variants.{Done, Refused}
 use Rattle.solver.specs.declared.FitResult.{FitResult}
 use Rattle.solver.specs.declared.IterOptions.{IterOptions}
+use Rattle.solver.specs.declared.SigmaBy.{SigmaBy}
 use Rattle.solver.specs.Call.{FitInputs, Buffers}
 use Rattle.design.specs.Design.{Star, Run, runOf, runInputsOf, collectIndices, isFree, skyRows}
 use Rattle.design.proofs.Indices.{up-to-length, indices-free}
@@ -196,10 +197,11 @@ iterations-of : Fit → ℕ
 iterations-of (Done r) = r .«iter_report» .iterations
 iterations-of (Refused k) = 0
 
-pub fitted-demand : (l : FitInputs) (o : IterOptions) (b left : Buffers) (r : FitResult) → length (l .dh) ≤ maxStars → outcome (Done r) left ≡ fitted l o b
+pub fitted-demand : (l : FitInputs) (by : SigmaBy) (o : IterOptions) (b left : Buffers) (r : FitResult) → length (l .dh) ≤ maxStars
+    → outcome (Done r) left ≡ fitted l by o b
     → Demand3 l o (Done r) (left .coefficients)
 unfolding fittedRun finished iterations-of
-fitted-demand l o b left r few e =
+fitted-demand l by o b left r few e =
     let m = length (l .coefficients) in
     let s = final (runOf l) o (l .coefficients) in
     let out : take m (left .coefficients) ≡ s =

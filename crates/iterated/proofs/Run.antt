@@ -12,13 +12,14 @@ use Rattle.linalg.specs.Linalg.{leverageOf}
 use Rattle.solver.specs.declared.Fit.the-variants.{Done}
 use Rattle.solver.specs.declared.FitResult.{FitResult}
 use Rattle.solver.specs.declared.IterOptions.{IterOptions}
+use Rattle.solver.specs.declared.SigmaBy.{SigmaBy}
 use Rattle.solver.specs.Call.{buffers}
 use Rattle.best.specs.ChiSquare.{chi}
 use Rattle.design.specs.Design.{Run, RunInputs, runFrom, scattered}
 use Rattle.design.specs.Counted.{Counted}
 use Rattle.design.proofs.Runs.{withTerms, count-is}
 use Rattle.stats.specs.declared.Sky.{Sky}
-use Rattle.stats.specs.Stats.{sumSqSky, skyOfSum, skyFrom, variance, sigmaAt}
+use Rattle.stats.specs.Stats.{degrees, sumSqSky, skyOfSum, skyFrom, divisor, variance, sigmaAt}
 use Rattle.outcome.specs.Outcome.{diagnosticFrom, diagnosticNumbers, answerOf, outcome}
 use Rattle.outcome.specs.Scratch.{countOf, heightIn, residualsIn, columnsIn, solvedIn}
 use Rattle.outcome.proofs.Front.{renewed, Renewed, front-long, front-fits, front-again, front-count, front-rest}
@@ -121,22 +122,23 @@ module _ {l : RunInputs} {need : ℕ} {start out ys zs set scratch v w : List Fl
     left-last : residualsIn l (take need last-scratch) ≡ freeResiduals (runFrom l) o (loop .how .«prev_chi2») (loop .set)
     left-last = rw (front-again (t .ended)) (q .last .left)
 
-    pub run-fitted : (change sigma diagnostics ch sigma′ diagnostics′ d : List Float) (sky : Sky) (answer : FitResult)
+    pub run-fitted : (by : SigmaBy) (change sigma diagnostics ch sigma′ diagnostics′ d : List Float) (sky : Sky) (answer : FitResult)
         → ch ≡ zipWith (sub binary64) (take (l .m) (renewed looped-out set (l .m))) start → sky ≡ skyOfSum (countOf l) (length (l .free)) least
         → answer ≡ answerOf (length (l .free)) (l .settings) a sky (reported how)
         → sigma′
-        ≡ scattered (l .free) (sigmaAt (variance (residualsIn l (take need last-scratch)) (countOf l) (a .rank)) (a .«cov_diag»)) (replicate (l .m) #0)
+        ≡ scattered (l .free) (sigmaAt (variance (residualsIn l (take need last-scratch)) (divisor by (countOf l) (a .rank))) (a .«cov_diag»))
+        (replicate (l .m) #0)
         ++ drop (l .m) sigma
         → diagnostics′
-        ≡ diagnosticNumbers (countOf l) (diagnosticFrom (countOf l) (a .rank) (residualsIn l (take need last-scratch))
+        ≡ diagnosticNumbers (countOf l) (diagnosticFrom (degrees (2 * countOf l) (a .rank)) (residualsIn l (take need last-scratch))
         (leverageOf (heightIn l) (columnsIn l (take need last-scratch)) (take (length (l .free)) (a .order)) (a .«inv_s»)))
         ++ drop (3 * countOf l) diagnostics
         → d ≡ replicate (length (take need last-scratch)) #0
         → outcome (Done answer) (buffers (renewed looped-out set (l .m)) (renewed change ch (l .m)) sigma′ diagnostics′ (renewed last-scratch d need))
-        ≡ fittedRun (runFrom l) need start o (buffers out change sigma diagnostics scratch)
+        ≡ fittedRun (runFrom l) by need start o (buffers out change sigma diagnostics scratch)
     unfolding fittedRun
-    run-fitted change sigma diagnostics ch sigma′ diagnostics′ d sky answer ec ek ea ei ed ez =
+    run-fitted by change sigma diagnostics ch sigma′ diagnostics′ d sky answer ec ek ea ei ed ez =
         let is = q .last .kept in
         let moved : ch ≡ zipWith (sub binary64) set start = rw (front-again (t .kept)) at ec in
-        finishes l need (buffers out change sigma diagnostics scratch) (take need last-scratch) _ _ _ _ _ _ sigma′ diagnostics′ _ a _ sky _ answer
+        finishes l by need (buffers out change sigma diagnostics scratch) (take need last-scratch) _ _ _ _ _ _ sigma′ diagnostics′ _ a _ sky _ answer
         solved-last left-last (sky-of sky ek) (rw (out-is, is) refl) (rw (moved, is) refl) (rw (q .came) at ea) ei ed (scratch-is d ez)

@@ -10,6 +10,7 @@ use Rattle.linalg.proofs.Sweeps.{sweeps-made, sweeps-settled, undamped}
 use Rattle.solver.specs.declared.Fit.the-variants.{Done}
 use Rattle.solver.specs.declared.FitResult.{FitResult}
 use Rattle.solver.specs.declared.IterOptions.{IterOptions}
+use Rattle.solver.specs.declared.SigmaBy.{SigmaBy}
 use Rattle.solver.specs.Call.{FitInputs, Buffers, sizesOf}
 use Rattle.design.specs.Design.{Run, runOf}
 use Rattle.validate.specs.Questions.{asked}
@@ -30,7 +31,7 @@ module _ (r : Run) (o : IterOptions) (chi2 : Float) (s : List Float) where
   unfolding lmStep
   settled = ap (λ (x : Solved). x .outcome .settled) (undamped _ _ _ _ _ _) ∙ sweeps-settled _ _ _ _ _ _
 
-module _ (l : FitInputs) (o : IterOptions) (b : Buffers) (x : FitResult) (done : iteratedOutcome l o b .answer ≡ Done x) where
+module _ (l : FitInputs) (by : SigmaBy) (o : IterOptions) (b : Buffers) (x : FitResult) (done : iteratedOutcome l by o b .answer ≡ Done x) where
   -- of the columns weighed as the set has it at which the loop has ended
   pub tells : let r = runOf l in
       let p = lmLoop r o (l .coefficients) in
@@ -40,7 +41,7 @@ module _ (l : FitInputs) (o : IterOptions) (b : Buffers) (x : FitResult) (done :
       let r = runOf l in
       let p = lmLoop r o (l .coefficients) in
       let chi2 = p .how .«prev_chi2» in
-      Sweeps.tells (asked l o (sizesOf b)) (fitted l o b) b _ x (told r o chi2 (p .set)) refl
+      Sweeps.tells (asked l o (sizesOf b)) (fitted l by o b) b _ x (told r o chi2 (p .set)) refl
       (record { sweeps = made r o chi2 (p .set); settled = settled r o chi2 (p .set) }) done
 
   pub limited : SweepsInLimit (x .sweeps) (x .settled)

@@ -13,6 +13,7 @@ use Rattle.linalg.specs.declared.SolveOutcome.{SolveOutcome}
 use Rattle.linalg.specs.Linalg.{Solved}
 use Rattle.solver.specs.declared.IterOptions.{IterOptions}
 use Rattle.solver.specs.declared.IterReport.{IterReport}
+use Rattle.solver.specs.declared.SigmaBy.{SigmaBy}
 use Rattle.solver.specs.Call.{FitInputs, Buffers, sizesOf}
 use Rattle.validate.specs.Questions.{scratchNeeded, asked}
 use Rattle.design.specs.Design.{Run, RunInputs, runFrom, runOf, rowsOf, product, extracted}
@@ -129,18 +130,18 @@ reported how =
     record { iterations = how .iterations; converged = how .converged; «final_lambda» = how .lambda; «final_step_norm» = how .«last_step_norm» }
 
 -- of a run that needs so much of scratch
-unfoldable pub fittedRun : Run → ℕ → List Float → IterOptions → Buffers → Outcome
-fittedRun r need start o b =
+unfoldable pub fittedRun : Run → SigmaBy → ℕ → List Float → IterOptions → Buffers → Outcome
+fittedRun r by need start o b =
     let p = lmLoop r o start in
     let chi2 = p .how .«prev_chi2» in
     let s = lastSet r o chi2 (p .set) in
-    finished r need b s (change s start) (lastStep r o chi2 (p .set)) (freeResiduals r o chi2 (p .set)) (residualsUnder r s) (reported (p .how))
+    finished r by need b s (change s start) (lastStep r o chi2 (p .set)) (freeResiduals r o chi2 (p .set)) (residualsUnder r s) (reported (p .how))
 
-abbrev pub fitted : FitInputs → IterOptions → Buffers → Outcome
-fitted l o b = fittedRun (runOf l) (scratchNeeded (length (l .coefficients)) (length (l .dh))) (l .coefficients) o b
+abbrev pub fitted : FitInputs → SigmaBy → IterOptions → Buffers → Outcome
+fitted l by o b = fittedRun (runOf l) by (scratchNeeded (length (l .coefficients)) (length (l .dh))) (l .coefficients) o b
 
-unfoldable pub iteratedOutcome : FitInputs → IterOptions → Buffers → Outcome
-iteratedOutcome l o b = decided (asked l o (sizesOf b)) (fitted l o b) b
+unfoldable pub iteratedOutcome : FitInputs → SigmaBy → IterOptions → Buffers → Outcome
+iteratedOutcome l by o b = decided (asked l o (sizesOf b)) (fitted l by o b) b
 
 -- ---- what the functions leave
 

@@ -22,6 +22,7 @@ use solver::FitResult;
 use solver::IterOptions;
 use solver::IterReport;
 use solver::Settings;
+use solver::SigmaBy;
 use solver::Sizes;
 use validate::Asked;
 
@@ -309,6 +310,7 @@ fn fit_run(
     sheets: &[f64],
     used: &[u16],
     s: Settings,
+    sigma_by: SigmaBy,
     options: IterOptions,
     need: usize,
     out: &mut [f64],
@@ -322,7 +324,7 @@ fn fit_run(
     requires { λ l. ⌜ Counted l × (8 * countOf l + l .m * (2 * countOf l + 2 * l .m) ≤ need) × (need ≤ length (now scratch)) × (l .m ≤ length (now out))
         × (l .m ≤ length (now change)) × (l .m ≤ length (now sigma)) × (3 * countOf l ≤ length (now diagnostics)) ⌝ }
     ensures { λ l r. ⌜ outcome (Fit.Done r) (buffers (now (out .exit)) (now (change .exit)) (now (sigma .exit)) (now (diagnostics .exit)) (now (scratch .exit)))
-        ≡ fittedRun (runFrom l) need (now (coefficients .entry)) options
+        ≡ fittedRun (runFrom l) «sigma_by» need (now (coefficients .entry)) options
         (buffers (now (out .entry)) (now (change .entry)) (now (sigma .entry)) (now (diagnostics .entry)) (now (scratch .entry))) ⌝ }
 {
     let m = coefficients.len();
@@ -369,6 +371,7 @@ fn fit_run(
         n,
         m,
         s,
+        sigma_by,
         solved,
         sky,
         report,
@@ -388,6 +391,7 @@ pub fn fit(
     pier: &[u8],
     sheets: &[f64],
     s: Settings,
+    sigma_by: SigmaBy,
     options: IterOptions,
     out: &mut [f64],
     change: &mut [f64],
@@ -399,7 +403,8 @@ pub fn fit(
     requires { λ l. ⌜ inputs (now names) (now fixed) (now coefficients) (now dh) (now dd) (now pier) (now sheets) s ≡ l ⌝ }
     requires { λ l. ⌜ Ready l (sizesOf (buffers (now out) (now change) (now sigma) (now diagnostics) (now scratch))) ⌝ }
     ensures { λ l r. ⌜ outcome (Fit.Done r) (buffers (now (out .exit)) (now (change .exit)) (now (sigma .exit)) (now (diagnostics .exit)) (now (scratch .exit)))
-        ≡ fitted l options (buffers (now (out .entry)) (now (change .entry)) (now (sigma .entry)) (now (diagnostics .entry)) (now (scratch .entry))) ⌝ }
+        ≡ fitted l «sigma_by» options
+        (buffers (now (out .entry)) (now (change .entry)) (now (sigma .entry)) (now (diagnostics .entry)) (now (scratch .entry))) ⌝ }
 {
     let n = dh.len();
     let need = validate::scratch_needed(coefficients.len(), n);
@@ -417,6 +422,7 @@ pub fn fit(
         sheets,
         &stars[..n],
         s,
+        sigma_by,
         options,
         need,
         out,
@@ -438,6 +444,7 @@ pub fn fit_model_iterated(
     pier: &[u8],
     sheets: &[f64],
     settings: Settings,
+    sigma_by: SigmaBy,
     options: IterOptions,
     out: &mut [f64],
     change: &mut [f64],
@@ -447,7 +454,7 @@ pub fn fit_model_iterated(
 ) -> Fit
     ensures equal { λ r. ⌜ outcome r (buffers (now (out .exit)) (now (change .exit)) (now (sigma .exit)) (now (diagnostics .exit)) (now (scratch .exit)))
         ≡ iteratedOutcome (inputs (now (names .entry)) (now (fixed .entry)) (now (coefficients .entry)) (now (dh .entry)) (now (dd .entry))
-        (now (pier .entry)) (now (sheets .entry)) settings) options
+        (now (pier .entry)) (now (sheets .entry)) settings) «sigma_by» options
         (buffers (now (out .entry)) (now (change .entry)) (now (sigma .entry)) (now (diagnostics .entry)) (now (scratch .entry))) ⌝ }
     ensures demand { λ r. ⌜ Demand3 (inputs (now (names .entry)) (now (fixed .entry)) (now (coefficients .entry)) (now (dh .entry)) (now (dd .entry))
         (now (pier .entry)) (now (sheets .entry)) settings) options
@@ -483,6 +490,7 @@ pub fn fit_model_iterated(
             pier,
             sheets,
             settings,
+            sigma_by,
             options,
             out,
             change,

@@ -8,6 +8,7 @@ use lib.Ieee.{Float}
 use Rattle.linalg.specs.Linalg.{Solved}
 use Rattle.solver.specs.declared.IterOptions.{IterOptions}
 use Rattle.solver.specs.declared.IterReport.{IterReport}
+use Rattle.solver.specs.declared.SigmaBy.{SigmaBy}
 use Rattle.solver.specs.Call.{FitInputs, Buffers, withScratch, sizesOf}
 use Rattle.design.specs.Design.{Run}
 use Rattle.validate.specs.Questions.{scratchNeeded, enoughRoom, asked}
@@ -16,10 +17,11 @@ use Rattle.validate.specs.declared.Asked.the-variants.{Pass, No}
 use Rattle.outcome.specs.Outcome.{Outcome, SameFit, decided, finished}
 
 -- what is finished is the same whatever the run needs of scratch
-pub finished-same : (r : Run) (need need′ : ℕ) (b : Buffers) (w set change : List Float) (s : Solved) (res under : List Float) (report : IterReport)
-    → SameFit (finished r need b set change s res under report) (finished r need′ (withScratch w b) set change s res under report)
+pub finished-same : (r : Run) (by : SigmaBy) (need need′ : ℕ) (b : Buffers) (w set change : List Float) (s : Solved) (res under : List Float)
+    (report : IterReport)
+    → SameFit (finished r by need b set change s res under report) (finished r by need′ (withScratch w b) set change s res under report)
 unfolding finished
-finished-same r need need′ b w set change s res under report =
+finished-same r by need need′ b w set change s res under report =
     record { answer = refl; coefficients = refl; change = refl; sigma = refl; diagnostics = refl }
 
 module _ (l : FitInputs) (o : IterOptions) (b : Buffers) (w : List Float)

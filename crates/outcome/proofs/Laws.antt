@@ -18,12 +18,13 @@ use Rattle.linalg.proofs.Laws.{in-order-placed}
 use Rattle.solver.specs.declared.Fit.the-variants.{Done}
 use Rattle.solver.specs.declared.FitResult.{FitResult}
 use Rattle.solver.specs.declared.IterReport.{IterReport}
+use Rattle.solver.specs.declared.SigmaBy.{SigmaBy}
 use Rattle.solver.specs.Call.{Buffers, buffers}
 use Rattle.design.specs.Design.{RunInputs, runFrom, scattered}
 use Rattle.design.specs.Counted.{Below}
 use Rattle.design.proofs.Runs.{count-is}
 use Rattle.stats.specs.declared.Sky.{Sky}
-use Rattle.stats.specs.Stats.{skyFrom, variance, sigmaAt}
+use Rattle.stats.specs.Stats.{degrees, skyFrom, divisor, variance, sigmaAt}
 use Rattle.outcome.specs.Outcome.{sigmaOf, diagnosticFrom, diagnosticOf, diagnosticNumbers, answerOf, outcome, finished}
 use Rattle.outcome.specs.Scratch.{countOf, heightIn, residualsIn, columnsIn, solvedIn, Fits}
 use Rattle.outcome.proofs.Front.{front-zeros}
@@ -53,18 +54,18 @@ lent w x n = ap (λ (k : ℕ). take k (drop x w)) (add-sub-cancel-left x n)
 pub placed-lent : (w : List Float) (c k h : ℕ) (o : List ℕ) → Placed h (part w c k) o → Placed h (take (c + k - c) (drop c w)) o
 placed-lent w c k h o p = rw (lent w c k) p
 
-pub sigma-given : (free : List ℕ) (w cov was ys zs : List Float) (x n m k rank : ℕ) (s2 : Float) → m ≤ length was
-    → s2 ≡ variance (take (x + n - x) (drop x w)) k rank → ys ≡ replicate (length (take m was)) #0
+pub sigma-given : (free : List ℕ) (w cov was ys zs : List Float) (x n m d dof : ℕ) (s2 : Float) → m ≤ length was
+    → d ≡ dof → s2 ≡ variance (take (x + n - x) (drop x w)) d → ys ≡ replicate (length (take m was)) #0
     → zs ≡ scattered free (sigmaAt s2 cov) (take m (ys ++ drop m was))
-    → zs ++ drop m (ys ++ drop m was) ≡ scattered free (sigmaAt (variance (part w x n) k rank) cov) (replicate m #0) ++ drop m was
-sigma-given free w cov was ys zs x n m k rank s2 room e z q =
-    let v : s2 ≡ variance (part w x n) k rank = rw (lent w x n) at e in
+    → zs ++ drop m (ys ++ drop m was) ≡ scattered free (sigmaAt (variance (part w x n) dof) cov) (replicate m #0) ++ drop m was
+sigma-given free w cov was ys zs x n m d dof s2 room i e z q =
+    let v : s2 ≡ variance (part w x n) dof = rw (lent w x n, i) at e in
     rw v at (front-zeros (scattered free (sigmaAt s2 cov)) was ys zs m room z q)
 
-pub diagnostics-given : (w was is inv : List Float) (order : List ℕ) (x n c k h i rank : ℕ)
-    → is ≡ diagnosticNumbers i (diagnosticFrom i rank (take (x + n - x) (drop x w)) (leverageOf h (take (c + k - c) (drop c w)) order inv)) ++ drop (3 * i) was
-    → is ≡ diagnosticNumbers i (diagnosticFrom i rank (part w x n) (leverageOf h (part w c k) order inv)) ++ drop (3 * i) was
-diagnostics-given w was is inv order x n c k h i rank e = rw (lent w x n, lent w c k) at e
+pub diagnostics-given : (w was is inv : List Float) (order : List ℕ) (x n c k h i d dof : ℕ) → d ≡ dof
+    → is ≡ diagnosticNumbers i (diagnosticFrom d (take (x + n - x) (drop x w)) (leverageOf h (take (c + k - c) (drop c w)) order inv)) ++ drop (3 * i) was
+    → is ≡ diagnosticNumbers i (diagnosticFrom dof (part w x n) (leverageOf h (part w c k) order inv)) ++ drop (3 * i) was
+diagnostics-given w was is inv order x n c k h i d dof q e = rw (lent w x n, lent w c k, q) at e
 
 -- ---- the order of the columns after a solve
 
@@ -102,17 +103,18 @@ finish-ready l w sigma diagnostics o s f e q hs hd =
 
 -- ---- the end of a fit: from what `finish` ensures, where w held the last solve s and the residuals res that it left
 
-pub finishes : (l : RunInputs) (need : ℕ) (b : Buffers) (w set change res under out′ change′ sigma′ diagnostics′ scratch′ : List Float)
+pub finishes : (l : RunInputs) (by : SigmaBy) (need : ℕ) (b : Buffers) (w set change res under out′ change′ sigma′ diagnostics′ scratch′ : List Float)
     (o : SolveOutcome) (s : Solved) (sky : Sky) (report : IterReport) (r : FitResult)
     → solvedIn l w o ≡ s → residualsIn l w ≡ res → sky ≡ skyFrom (runFrom l .stars) (length (l .free)) under
     → out′ ≡ set ++ drop (l .m) (b .coefficients) → change′ ≡ change ++ drop (l .m) (b .change)
     → r ≡ answerOf (length (l .free)) (l .settings) o sky report
-    → sigma′ ≡ scattered (l .free) (sigmaAt (variance (residualsIn l w) (countOf l) (o .rank)) (o .«cov_diag»)) (replicate (l .m) #0) ++ drop (l .m) (b .sigma)
-    → diagnostics′ ≡ diagnosticNumbers (countOf l) (diagnosticFrom (countOf l) (o .rank) (residualsIn l w)
+    → sigma′ ≡ scattered (l .free) (sigmaAt (variance (residualsIn l w) (divisor by (countOf l) (o .rank))) (o .«cov_diag»)) (replicate (l .m) #0)
+    ++ drop (l .m) (b .sigma)
+    → diagnostics′ ≡ diagnosticNumbers (countOf l) (diagnosticFrom (degrees (2 * countOf l) (o .rank)) (residualsIn l w)
     (leverageOf (heightIn l) (columnsIn l w) (take (length (l .free)) (o .order)) (o .«inv_s»)))
     ++ drop (3 * countOf l) (b .diagnostics)
     → scratch′ ≡ replicate need #0 ++ drop need (b .scratch)
-    → outcome (Done r) (buffers out′ change′ sigma′ diagnostics′ scratch′) ≡ finished (runFrom l) need b set change s res under report
+    → outcome (Done r) (buffers out′ change′ sigma′ diagnostics′ scratch′) ≡ finished (runFrom l) by need b set change s res under report
 unfolding finished sigmaOf diagnosticOf
-finishes l need b w set change res under out′ change′ sigma′ diagnostics′ scratch′ o s sky report r es er ek eo ec ea ei ed ez =
+finishes l by need b w set change res under out′ change′ sigma′ diagnostics′ scratch′ o s sky report r es er ek eo ec ea ei ed ez =
     rw (← es, ← er, ← ek, ← count-is l, ← eo, ← ec, ← ea, ← ei, ← ed, ← ez)

@@ -4,4 +4,5 @@ pub mod Runs
 pub mod Call
 pub mod Diagnostics
 pub mod AnyScratch
+pub mod AnyChoice
 pub mod Sweeps

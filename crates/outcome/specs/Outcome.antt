@@ -15,26 +15,29 @@ use Rattle.solver.specs.declared.FitResult.{FitResult}
 use Rattle.solver.specs.declared.IterReport.{IterReport}
 use Rattle.solver.specs.declared.ObsDiagnostic.{ObsDiagnostic}
 use Rattle.solver.specs.declared.Settings.{Settings}
+use Rattle.solver.specs.declared.SigmaBy.{SigmaBy}
 use Rattle.solver.specs.Call.{Buffers, buffers}
 use Rattle.design.specs.Design.{Run, rowsOf, heightOf, scattered, freeColumns}
 use Rattle.validate.specs.declared.Asked.{Asked}
 use Rattle.validate.specs.declared.Asked.the-variants.{Pass, No}
 use Rattle.stats.specs.declared.Sky.{Sky}
-use Rattle.stats.specs.Stats.{skyFrom, variance, sigmaAt, deviation, diagnostic}
+use Rattle.stats.specs.Stats.{sqrt, degrees, skyFrom, divisor, variance, sigmaAt, diagnostic}
 
 -- ---- statistics of a run, from the last solve and the residuals res that it left
 
--- compute_sigma_from_covariance: 0 in a fixed term's place
-unfoldable pub sigmaOf : Run → SolveOutcome → List Float → List Float
-sigmaOf r o res = scattered (r .free) (sigmaAt (variance res (length (r .stars)) (o .rank)) (o .«cov_diag»)) (replicate (r .m) #0)
+-- compute_sigma_from_covariance, by stars or by rows: 0 in a fixed term's place
+unfoldable pub sigmaOf : SigmaBy → Run → SolveOutcome → List Float → List Float
+sigmaOf by r o res =
+    scattered (r .free) (sigmaAt (variance res (divisor by (length (r .stars)) (o .rank))) (o .«cov_diag»)) (replicate (r .m) #0)
 
--- compute_diagnostics: of star i, from the residuals res of n stars and each row's leverage
-abbrev pub diagnosticFrom : ℕ → ℕ → List Float → (ℕ → Float) → ℕ → ObsDiagnostic
-diagnosticFrom n rank res leverage i =
-    diagnostic (deviation res (2 * n) rank) (at res (2 * i)) (at res (2 * i + 1)) (leverage (2 * i)) (leverage (2 * i + 1))
+-- compute_diagnostics: of star i, from the residuals res, the divisor of their squares and each row's leverage
+abbrev pub diagnosticFrom : ℕ → List Float → (ℕ → Float) → ℕ → ObsDiagnostic
+diagnosticFrom dof res leverage i =
+    diagnostic (sqrt (variance res dof)) (at res (2 * i)) (at res (2 * i + 1)) (leverage (2 * i)) (leverage (2 * i + 1))
 
+-- rows less rank, whatever sigma is by
 unfoldable pub diagnosticOf : Run → Solved → List Float → ℕ → ObsDiagnostic
-diagnosticOf r s res = diagnosticFrom (length (r .stars)) (s .outcome .rank) res (leverageAfter (heightOf r) (length (r .free)) s)
+diagnosticOf r s res = diagnosticFrom (degrees (rowsOf r) (s .outcome .rank)) res (leverageAfter (heightOf r) (length (r .free)) s)
 
 -- residual, leverage and studentized residual of n stars, one star after the other
 abbrev pub diagnosticNumbers : ℕ → (ℕ → ObsDiagnostic) → List Float
@@ -78,15 +81,23 @@ pub record SameFit (x y : Outcome) : Type 0 where
   pub sigma : x .left .sigma ≡ y .left .sigma
   pub diagnostics : x .left .diagnostics ≡ y .left .diagnostics
 
+-- two that agree in all but what sigma holds
+pub record SameButSigma (x y : Outcome) : Type 0 where
+  pub answer : x .answer ≡ y .answer
+  pub coefficients : x .left .coefficients ≡ y .left .coefficients
+  pub change : x .left .change ≡ y .left .change
+  pub diagnostics : x .left .diagnostics ≡ y .left .diagnostics
+  pub scratch : x .left .scratch ≡ y .left .scratch
+
 -- a call by the answer of its questions: the fit, or the refusal with every buffer as it was
 abbrev pub decided : Asked → Outcome → Buffers → Outcome
 decided Pass x b = x
 decided (No k) x b = outcome (Refused k) b
 
--- an accepted fit of a run that needs so much of scratch: the set, its change, the last solve and the residuals res that it left, the residuals under
--- the set, and how it was come to. The run's n is the page's in every call
-unfoldable pub finished : Run → ℕ → Buffers → List Float → List Float → Solved → List Float → List Float → IterReport → Outcome
-finished r need b set change s res under report =
+-- an accepted fit of a run that needs so much of scratch: what sigma is by, the set, its change, the last solve and the residuals res that it left, the
+-- residuals under the set, and how it was come to. The run's n is the page's in every call
+unfoldable pub finished : Run → SigmaBy → ℕ → Buffers → List Float → List Float → Solved → List Float → List Float → IterReport → Outcome
+finished r by need b set change s res under report =
     let m = r .m in
     let n = length (r .stars) in
     let free = length (r .free) in
@@ -95,6 +106,6 @@ finished r need b set change s res under report =
     (buffers
     (set ++ drop m (b .coefficients))
     (change ++ drop m (b .change))
-    (sigmaOf r (s .outcome) res ++ drop m (b .sigma))
+    (sigmaOf by r (s .outcome) res ++ drop m (b .sigma))
     (diagnosticNumbers n (diagnosticOf r s res) ++ drop (3 * n) (b .diagnostics))
     (replicate need #0 ++ drop need (b .scratch)))

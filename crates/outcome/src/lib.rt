@@ -12,7 +12,7 @@ ghost use Rattle.sequence.specs.Sequence.{at, part};
 ghost use Rattle.linalg.specs.Linalg.{Placed, leverageOf};
 ghost use Rattle.design.specs.Design.{Star, sightsAt, product, extracted, weighedAt, scattered};
 ghost use Rattle.design.specs.Counted.{Below, Seen, Named};
-ghost use Rattle.stats.specs.Stats.{variance, sigmaAt};
+ghost use Rattle.stats.specs.Stats.{degrees, divisor, variance, sigmaAt};
 ghost use Rattle.outcome.specs.Outcome.{diagnosticFrom, diagnosticNumbers, answerOf};
 use limits::MAX_TERMS;
 use linalg::SolveOutcome;
@@ -20,6 +20,7 @@ use solver::FitResult;
 use solver::IterReport;
 use solver::RankInfo;
 use solver::Settings;
+use solver::SigmaBy;
 use stats::Sky;
 
 // At 2·n, what lies at 4·n less the product of the free sky columns, weighed, with x: the free terms' residuals.
@@ -50,7 +51,8 @@ pub fn free_residuals(
     design::subtract_from(v, rows, 4 * n, rows);
 }
 
-// Three numbers for each of n stars, from their residuals r and the solved columns u, of which those in o count where inv_s isn't 0.
+// Three numbers for each of n stars, from their residuals r, the divisor of their squares and the solved columns u, of which those in o count where inv_s
+// isn't 0.
 fn compute_diagnostics(
     u: &[f64],
     h: usize,
@@ -58,15 +60,15 @@ fn compute_diagnostics(
     inv_s: &[f64; MAX_TERMS],
     r: &[f64],
     n: usize,
-    rank: usize,
+    dof: usize,
     out: &mut [f64],
 )
-    requires { ⌜ Placed h (now u) (now o) × (2 * n ≤ h) × (n ≤ maxStars) × (length (now r) ≡ 2 * n) × (3 * n ≤ length (now out)) ⌝ }
+    requires { ⌜ Placed h (now u) (now o) × (2 * n ≤ h) × (n ≤ maxStars) × (length (now r) ≡ 2 * n) × (dof ≤ 2 * maxStars + 1) × (3 * n ≤ length (now out)) ⌝ }
     ensures { λ _. ⌜ now (out .exit)
-        ≡ diagnosticNumbers n (diagnosticFrom n rank (now (r .entry)) (leverageOf h (now (u .entry)) (now (o .entry)) (now («inv_s» .entry))))
+        ≡ diagnosticNumbers n (diagnosticFrom dof (now (r .entry)) (leverageOf h (now (u .entry)) (now (o .entry)) (now («inv_s» .entry))))
         ++ drop (3 * n) (now (out .entry)) ⌝ }
 {
-    let s = sqrt::sqrt(stats::variance(r, 2 * n, rank));
+    let s = sqrt::sqrt(stats::variance(r, dof));
     for i in 0..n {
         let l_ha = linalg::leverage(u, h, o, 2 * i, inv_s);
         let l_dec = linalg::leverage(u, h, o, 2 * i + 1, inv_s);
@@ -84,6 +86,7 @@ pub fn finish(
     n: usize,
     m: usize,
     s: Settings,
+    sigma_by: SigmaBy,
     solved: SolveOutcome,
     sky: Sky,
     report: IterReport,
@@ -96,10 +99,11 @@ pub fn finish(
         × (length (take (length (now free)) (solved .order)) ≡ length (now free)) × (m ≤ length (now sigma)) × (3 * n ≤ length (now diagnostics)) ⌝ }
     ensures answer { λ r. ⌜ r ≡ answerOf (length (now (free .entry))) s solved sky report ⌝ }
     ensures sigmas { λ _. ⌜ now (sigma .exit)
-        ≡ scattered (now (free .entry)) (sigmaAt (variance (part (now (w .entry)) (2 * n) (2 * n)) n (solved .rank)) (solved .«cov_diag»)) (replicate m #0)
+        ≡ scattered (now (free .entry)) (sigmaAt (variance (part (now (w .entry)) (2 * n) (2 * n)) (divisor «sigma_by» n (solved .rank))) (solved .«cov_diag»))
+        (replicate m #0)
         ++ drop m (now (sigma .entry)) ⌝ }
     ensures stars { λ _. ⌜ now (diagnostics .exit)
-        ≡ diagnosticNumbers n (diagnosticFrom n (solved .rank) (part (now (w .entry)) (2 * n) (2 * n))
+        ≡ diagnosticNumbers n (diagnosticFrom (degrees (2 * n) (solved .rank)) (part (now (w .entry)) (2 * n) (2 * n))
         (leverageOf (2 * n + 2 * m) (part (now (w .entry)) (8 * n) (length (now (free .entry)) * (2 * n + 2 * m)))
         (take (length (now (free .entry))) (solved .order)) (solved .«inv_s»)))
         ++ drop (3 * n) (now (diagnostics .entry)) ⌝ }
@@ -112,9 +116,11 @@ pub fn finish(
     let order = solved.order;
     let inv_s = solved.inv_s;
     let cov_diag = solved.cov_diag;
-    let s2 = stats::variance(&w[rows..rows + rows], n, solved.rank);
+    let dof = stats::divisor(sigma_by, n, solved.rank);
+    let s2 = stats::variance(&w[rows..rows + rows], dof);
     sequence::fill(&mut sigma[..m], 0.0);
     stats::compute_sigma(free, s2, &cov_diag, &mut sigma[..m]);
+    let row_dof = stats::degrees(rows, solved.rank);
     compute_diagnostics(
         &w[c..c + k],
         h,
@@ -122,7 +128,7 @@ pub fn finish(
         &inv_s,
         &w[rows..rows + rows],
         n,
-        solved.rank,
+        row_dof,
         diagnostics,
     );
     sequence::fill(w, 0.0);

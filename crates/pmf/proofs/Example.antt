@@ -20,7 +20,7 @@ use Rattle.linalg.specs.Linalg.{decomposed, threshold, inverse, inverses, rankT
 use Rattle.design.specs.Design as Design
 use Rattle.design.specs.Design.{kept, collectIndices, pairs, column, skyColumn, differences, skyRows, skyDifferences, subtractAll, product, scattered, stacked}
 use Rattle.validate.specs.Questions.{inLimits, counts, scratchNeeded, enoughRoom, finiteSettings, finiteInput, finiteOptions, codesKnown, asked}
-use Rattle.stats.specs.Stats.{sumSqSky, skyFrom, variance, deviation, clamped, studentizedRow, diagnostic}
+use Rattle.stats.specs.Stats.{sumSqSky, skyFrom, variance, clamped, studentizedRow, diagnostic}
 use Rattle.single_step.specs.SingleStep as Step
 use Rattle.outcome.specs.Outcome as Out
 use Rattle.listing.specs.Text as Text
@@ -69,7 +69,7 @@ pub example : Pmf.listed file ≡ ascii "fit 1 1 1 yes 1 yes" ++ Text.newline ++
 unfolding nameOf wellFormed digitsFrom unsigned components parseHarmonic readHarmonic byKnown readTerm jacobianOf pointOf isFinite abs neg add sub mul div lt le
     eq ofBits ofInt Root.sqrt table filled each sumTo sumBut dot zipWith asked inLimits counts scratchNeeded enoughRoom finiteInput finiteOptions codesKnown firstOf
     Step.step Step.toFit Step.change Step.newCoefficients Step.freeResiduals Out.sigmaOf Out.diagnosticOf Design.rows pairs column skyColumn
-    differences skyDifferences subtractAll product stacked sumSqSky variance deviation clamped studentizedRow diagnostic solved answered decomposed norms norm
+    differences skyDifferences subtractAll product stacked sumSqSky variance clamped studentizedRow diagnostic solved answered decomposed norms norm
     scaleOf scaledColumn unitColumn columns diagonal diagonals extended inverses inverse rankTo projected xScaled solution scaledVariance covariance leverageOf
     threshold order best sweeps sweep row pair turn zetaOf tanOf cosOf toBits Text.digit Text.lastDigits Text.decimal Text.hexadecimal Text.bitsOf concatTo
     Listing.countsLine Listing.floats Listing.termLine Listing.termLines Listing.skyLine Listing.fitText Listing.refusalText File.double File.inputOf

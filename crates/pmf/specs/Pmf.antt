@@ -12,6 +12,7 @@ use Rattle.terms.specs.Questions.{ask, firstNo}
 use Rattle.solver.specs.declared.Fit.{Fit}
 use Rattle.solver.specs.declared.Fit.the-variants.{Done, Refused}
 use Rattle.solver.specs.declared.IterOptions.{IterOptions}
+use Rattle.solver.specs.declared.SigmaBy.the-variants.{Stars}
 use Rattle.solver.specs.Call.{FitInputs, Buffers, buffers, sizesOf}
 use Rattle.validate.specs.Questions.{scratchNeeded, asked}
 use Rattle.outcome.specs.Outcome.{Outcome, decided}
@@ -53,9 +54,9 @@ room =
     let terms = replicate fileTerms #0 in
     buffers terms terms terms (replicate (3 * fileStars) #0) (replicate (scratchNeeded fileTerms fileStars) #0)
 
--- the fit of a mode: 0 is the single step, 1 and 3 are the iterated fit
+-- the fit of a mode: 0 is the single step, 1 and 3 are the iterated fit; sigma is by stars
 unfoldable pub fitOf : ℕ → FitInputs → IterOptions → Buffers → Outcome
-fitOf mode l o b = cond (eqb mode 0) (singleStep l b) (iterated l o b)
+fitOf mode l o b = cond (eqb mode 0) (singleStep l Stars b) (iterated l Stars o b)
 
 -- the questions are put to every field in every mode, then the fit is made
 unfoldable pub outcomeOf : ℕ → FitInputs → IterOptions → Outcome

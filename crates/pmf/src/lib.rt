@@ -28,6 +28,7 @@ use solver::Fit;
 use solver::FitResult;
 use solver::IterOptions;
 use solver::Settings;
+use solver::SigmaBy;
 use solver::Sizes;
 use validate::Asked;
 
@@ -130,6 +131,7 @@ fn fit(
             pier,
             sheets,
             settings,
+            SigmaBy::Stars,
             out,
             change,
             sigma,
@@ -146,6 +148,7 @@ fn fit(
         pier,
         sheets,
         settings,
+        SigmaBy::Stars,
         options,
         out,
         change,

@@ -13,12 +13,14 @@ use solver::Fit;
 use solver::FitResult;
 use solver::IterOptions;
 use solver::Settings;
+use solver::SigmaBy;
 
 struct Tally {
     fits: u64,
     done: u64,
     refused: [u64; 16],
     deficient: u64,
+    by_rows: u64,
     not_numbers: u64,
     thirty: u64,
     not_settled: u64,
@@ -47,6 +49,7 @@ struct Sizes {
 struct Scalars {
     mode: u8,
     settings: Settings,
+    sigma_by: u8,
     options: IterOptions,
 }
 
@@ -54,6 +57,9 @@ struct Scalars {
 const SINGLE: u8 = 0;
 
 const ROBUST: u8 = 3;
+
+// What sigma is by; any other is by stars.
+const BY_ROWS: u8 = 1;
 
 // The numbers of a call's head, after its mode.
 fn read_sizes() -> Sizes
@@ -255,7 +261,14 @@ fn hold_fit(
     }
 }
 
-fn count_done(mut t: Tally, mode: u8, r: FitResult, held: Held, expected: u8) -> Tally {
+fn count_done(
+    mut t: Tally,
+    mode: u8,
+    sigma_by: u8,
+    r: FitResult,
+    held: Held,
+    expected: u8,
+) -> Tally {
     let rank_info = r.rank_info;
     let iter_report = r.iter_report;
     t.done = replay::more(t.done);
@@ -267,6 +280,9 @@ fn count_done(mut t: Tally, mode: u8, r: FitResult, held: Held, expected: u8) ->
     }
     if rank_info.is_deficient() {
         t.deficient = replay::more(t.deficient);
+    }
+    if sigma_by == BY_ROWS {
+        t.by_rows = replay::more(t.by_rows);
     }
     if !held.numbers {
         t.not_numbers = replay::more(t.not_numbers);
@@ -292,6 +308,13 @@ fn count_refused(mut t: Tally, no: u8, kept: bool, expected: u8) -> Tally {
     t
 }
 
+fn chosen(code: u8) -> SigmaBy {
+    if code == BY_ROWS {
+        return SigmaBy::Rows;
+    }
+    SigmaBy::Stars
+}
+
 // The call by its mode.
 fn by_mode(
     p: Scalars,
@@ -308,6 +331,7 @@ fn by_mode(
     diagnostics: &mut [f64],
     scratch: &mut [f64],
 ) -> Fit {
+    let by = chosen(p.sigma_by);
     if p.mode == SINGLE {
         return single_step::fit_model(
             names,
@@ -318,6 +342,7 @@ fn by_mode(
             pier,
             sheets,
             p.settings,
+            by,
             out,
             change,
             sigma,
@@ -334,6 +359,7 @@ fn by_mode(
         pier,
         sheets,
         p.settings,
+        by,
         p.options,
         out,
         change,
@@ -386,6 +412,7 @@ fn fit(
 fn judge(
     mut t: Tally,
     mode: u8,
+    sigma_by: u8,
     m: usize,
     n: usize,
     fit: Fit,
@@ -406,7 +433,7 @@ fn judge(
         }
         Fit::Done(r) => {
             let held = hold_fit(r, m, n, out, change, sigma, diagnostics, scratch);
-            count_done(t, mode, r, held, expected)
+            count_done(t, mode, sigma_by, r, held, expected)
         }
     }
 }
@@ -440,6 +467,7 @@ fn call(
     judge(
         t,
         p.mode,
+        p.sigma_by,
         s.m,
         s.n,
         answer,
@@ -480,10 +508,12 @@ fn read_scalars(mode: u8) -> Scalars {
         cos_lat,
         fit_tol,
     };
+    let sigma_by = replay::byte();
     let options = read_options(mode == ROBUST);
     Scalars {
         mode,
         settings,
+        sigma_by,
         options,
     }
 }
@@ -560,6 +590,7 @@ fn report(t: Tally, iterated: bool) {
     replay::line(b"done", t.done);
     report_refused(refused, iterated);
     replay::line(b"deficient", t.deficient);
+    replay::line(b"by rows", t.by_rows);
     replay::line(b"not numbers", t.not_numbers);
     replay::line(b"thirty sweeps", t.thirty);
     replay::line(b"not settled", t.not_settled);
@@ -579,6 +610,7 @@ fn records(pool: &[f64], bytes: &mut [u8], numbers: &mut [f64]) -> Tally
         done: 0,
         refused: [0; 16],
         deficient: 0,
+        by_rows: 0,
         not_numbers: 0,
         thirty: 0,
         not_settled: 0,

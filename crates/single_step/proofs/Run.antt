@@ -13,12 +13,13 @@ use Rattle.linalg.specs.declared.SolveOutcome.{SolveOutcome}
 use Rattle.linalg.specs.Linalg.{Solved, leverageOf}
 use Rattle.solver.specs.declared.Fit.the-variants.{Done}
 use Rattle.solver.specs.declared.FitResult.{FitResult}
+use Rattle.solver.specs.declared.SigmaBy.{SigmaBy}
 use Rattle.solver.specs.Call.{Buffers, buffers}
 use Rattle.design.specs.Design.{RunInputs, runFrom, sightsAt, product, extracted, weighedAt, scattered}
 use Rattle.design.specs.Counted.{Counted}
 use Rattle.design.proofs.Runs.{withTerms, rows-are, free-room}
 use Rattle.stats.specs.declared.Sky.{Sky}
-use Rattle.stats.specs.Stats.{skyFrom, variance, sigmaAt}
+use Rattle.stats.specs.Stats.{degrees, skyFrom, divisor, variance, sigmaAt}
 use Rattle.outcome.specs.Outcome.{diagnosticFrom, diagnosticNumbers, answerOf, outcome}
 use Rattle.outcome.specs.Scratch.{countOf, heightIn, residualsIn, bIn, skyIn, columnsIn, solvedIn}
 use Rattle.outcome.proofs.Front.{renewed, Renewed, front-long, front-again, front-count, front-rest, front-part, front-above}
@@ -109,8 +110,8 @@ sky-as l k u sky e q = rw e at q
 
 -- ---- all of it
 
-pub run-fitted : (l : RunInputs) (s : List Float) (need : ℕ) (b : Buffers) (a v r d moved set sigma′ diagnostics′ : List Float) (o : SolveOutcome) (sky : Sky)
-    (answer : FitResult)
+pub run-fitted : (l : RunInputs) (by : SigmaBy) (s : List Float) (need : ℕ) (b : Buffers) (a v r d moved set sigma′ diagnostics′ : List Float)
+    (o : SolveOutcome) (sky : Sky) (answer : FitResult)
     → Lent l need (b .scratch) a v r → solvedIn l a o ≡ step (runFrom l) s → bIn l a ≡ toFit (runFrom l) s
     → Renewed (b .change) moved (l .m) → moved ≡ scattered (l .free) (at (o .x)) (replicate (length (take (l .m) (b .change))) #0)
     → Renewed (b .coefficients) set (l .m) → set ≡ zipWith (add binary64) s (take (l .m) (renewed (b .change) moved (l .m)))
@@ -122,25 +123,26 @@ pub run-fitted : (l : RunInputs) (s : List Float) (need : ℕ) (b : Buffers) (a 
     (weighedAt #0 (skyIn l (take (8 * countOf l) (afterSky l need (b .scratch) a v))) (l .settings) (sightsAt (l .pier) (l .sheets) (l .used)) (l .names))))
     → answer ≡ answerOf (length (l .free)) (l .settings) o sky once
     → sigma′
-    ≡ scattered (l .free) (sigmaAt (variance (residualsIn l (take need (afterAll l need (b .scratch) a v r))) (countOf l) (o .rank)) (o .«cov_diag»))
+    ≡ scattered (l .free)
+    (sigmaAt (variance (residualsIn l (take need (afterAll l need (b .scratch) a v r))) (divisor by (countOf l) (o .rank))) (o .«cov_diag»))
     (replicate (l .m) #0)
     ++ drop (l .m) (b .sigma)
     → diagnostics′
-    ≡ diagnosticNumbers (countOf l) (diagnosticFrom (countOf l) (o .rank) (residualsIn l (take need (afterAll l need (b .scratch) a v r)))
+    ≡ diagnosticNumbers (countOf l) (diagnosticFrom (degrees (2 * countOf l) (o .rank)) (residualsIn l (take need (afterAll l need (b .scratch) a v r)))
     (leverageOf (heightIn l) (columnsIn l (take need (afterAll l need (b .scratch) a v r))) (take (length (l .free)) (o .order)) (o .«inv_s»)))
     ++ drop (3 * countOf l) (b .diagnostics)
     → d ≡ replicate (length (take need (afterAll l need (b .scratch) a v r))) #0
     → outcome (Done answer)
     (buffers (renewed (b .coefficients) set (l .m)) (renewed (b .change) moved (l .m)) sigma′ diagnostics′
     (renewed (afterAll l need (b .scratch) a v r) d need))
-    ≡ fittedRun (runFrom l) need s b
+    ≡ fittedRun (runFrom l) by need s b
 unfolding fittedRun
-run-fitted l s need b a v r d moved set sigma′ diagnostics′ o sky answer t es eb km em ks et ek er ea ei ed ez =
+run-fitted l by s need b a v r d moved set sigma′ diagnostics′ o sky answer t es eb km em ks et ek er ea ei ed ez =
     let w₃ = afterAll l need (b .scratch) a v r in
     let ch : moved ≡ change (runFrom l) s = change-is l s a (b .change) moved o (km .room) es em in
     let new : set ≡ newCoefficients (runFrom l) s = set-is l s (b .change) moved set km ch et in
     let k = rw (front-again ks, new) at (sky-as l _ _ sky (front-count ks) ek) in
     let zs : renewed w₃ d need ≡ replicate need #0 ++ drop need (b .scratch) = rw (ez, length-take-le need w₃ (lent-fits t), rest-kept t) refl in
-    finishes l need b (take need w₃) _ _ _ _ _ _ sigma′ diagnostics′ _ o (step (runFrom l) s) sky once answer
+    finishes l by need b (take need w₃) _ _ _ _ _ _ sigma′ diagnostics′ _ o (step (runFrom l) s) sky once answer
     (step-kept t o (step (runFrom l) s) es) (residuals-are t o s es eb er) k
     (ap (λ (x : List Float). x ++ drop (l .m) (b .coefficients)) new) (ap (λ (x : List Float). x ++ drop (l .m) (b .change)) ch) ea ei ed zs

@@ -8,6 +8,7 @@ use Rattle.float.specs.Float.{#0}
 use Rattle.sequence.specs.Sequence.{at}
 use Rattle.linalg.specs.Linalg.{Solved, solved}
 use Rattle.solver.specs.declared.IterReport.{IterReport}
+use Rattle.solver.specs.declared.SigmaBy.{SigmaBy}
 use Rattle.solver.specs.Call.{FitInputs, Buffers, sizesOf}
 use Rattle.validate.specs.Questions.{scratchNeeded, asked, noOptions}
 use Rattle.design.specs.Design.{Run, runOf, rowsOf, heightOf, columnOf, skyOf, differences, skyDifferences, subtractAll, product, extracted, scattered, freeColumns}
@@ -50,12 +51,12 @@ abbrev pub once : IterReport
 once = record { iterations = 1; converged = true; «final_lambda» = #0; «final_step_norm» = #0 }
 
 -- of a run that needs so much of scratch
-unfoldable pub fittedRun : Run → ℕ → List Float → Buffers → Outcome
-fittedRun r need s b =
-    finished r need b (newCoefficients r s) (change r s) (step r s) (freeResiduals r s) (actualResiduals r (newCoefficients r s)) once
+unfoldable pub fittedRun : Run → SigmaBy → ℕ → List Float → Buffers → Outcome
+fittedRun r by need s b =
+    finished r by need b (newCoefficients r s) (change r s) (step r s) (freeResiduals r s) (actualResiduals r (newCoefficients r s)) once
 
-abbrev pub fitted : FitInputs → Buffers → Outcome
-fitted l b = fittedRun (runOf l) (scratchNeeded (length (l .coefficients)) (length (l .dh))) (l .coefficients) b
+abbrev pub fitted : FitInputs → SigmaBy → Buffers → Outcome
+fitted l by b = fittedRun (runOf l) by (scratchNeeded (length (l .coefficients)) (length (l .dh))) (l .coefficients) b
 
-unfoldable pub fitOutcome : FitInputs → Buffers → Outcome
-fitOutcome l b = decided (asked l noOptions (sizesOf b)) (fitted l b) b
+unfoldable pub fitOutcome : FitInputs → SigmaBy → Buffers → Outcome
+fitOutcome l by b = decided (asked l noOptions (sizesOf b)) (fitted l by b) b

@@ -23,6 +23,7 @@ use solver::Fit;
 use solver::FitResult;
 use solver::IterReport;
 use solver::Settings;
+use solver::SigmaBy;
 use solver::Sizes;
 use stats::Sky;
 use validate::Asked;
@@ -118,6 +119,7 @@ fn fit_run(
     sheets: &[f64],
     used: &[u16],
     s: Settings,
+    sigma_by: SigmaBy,
     need: usize,
     out: &mut [f64],
     change: &mut [f64],
@@ -130,7 +132,7 @@ fn fit_run(
     requires { λ l. ⌜ Counted l × (8 * countOf l + l .m * (2 * countOf l + 2 * l .m) ≤ need) × (need ≤ length (now scratch)) × (l .m ≤ length (now out))
         × (l .m ≤ length (now change)) × (l .m ≤ length (now sigma)) × (3 * countOf l ≤ length (now diagnostics)) ⌝ }
     ensures { λ l r. ⌜ outcome (Fit.Done r) (buffers (now (out .exit)) (now (change .exit)) (now (sigma .exit)) (now (diagnostics .exit)) (now (scratch .exit)))
-        ≡ fittedRun (runFrom l) need (now (coefficients .entry))
+        ≡ fittedRun (runFrom l) «sigma_by» need (now (coefficients .entry))
         (buffers (now (out .entry)) (now (change .entry)) (now (sigma .entry)) (now (diagnostics .entry)) (now (scratch .entry))) ⌝ }
 {
     let m = coefficients.len();
@@ -184,6 +186,7 @@ fn fit_run(
         n,
         m,
         s,
+        sigma_by,
         solved,
         sky,
         report,
@@ -203,6 +206,7 @@ pub fn fit(
     pier: &[u8],
     sheets: &[f64],
     s: Settings,
+    sigma_by: SigmaBy,
     out: &mut [f64],
     change: &mut [f64],
     sigma: &mut [f64],
@@ -213,7 +217,7 @@ pub fn fit(
     requires { λ l. ⌜ inputs (now names) (now fixed) (now coefficients) (now dh) (now dd) (now pier) (now sheets) s ≡ l ⌝ }
     requires { λ l. ⌜ Ready l (sizesOf (buffers (now out) (now change) (now sigma) (now diagnostics) (now scratch))) ⌝ }
     ensures { λ l r. ⌜ outcome (Fit.Done r) (buffers (now (out .exit)) (now (change .exit)) (now (sigma .exit)) (now (diagnostics .exit)) (now (scratch .exit)))
-        ≡ fitted l (buffers (now (out .entry)) (now (change .entry)) (now (sigma .entry)) (now (diagnostics .entry)) (now (scratch .entry))) ⌝ }
+        ≡ fitted l «sigma_by» (buffers (now (out .entry)) (now (change .entry)) (now (sigma .entry)) (now (diagnostics .entry)) (now (scratch .entry))) ⌝ }
 {
     let n = dh.len();
     let need = validate::scratch_needed(coefficients.len(), n);
@@ -231,6 +235,7 @@ pub fn fit(
         sheets,
         &stars[..n],
         s,
+        sigma_by,
         need,
         out,
         change,
@@ -251,6 +256,7 @@ pub fn fit_model(
     pier: &[u8],
     sheets: &[f64],
     settings: Settings,
+    sigma_by: SigmaBy,
     out: &mut [f64],
     change: &mut [f64],
     sigma: &mut [f64],
@@ -259,7 +265,7 @@ pub fn fit_model(
 ) -> Fit
     ensures { λ r. ⌜ outcome r (buffers (now (out .exit)) (now (change .exit)) (now (sigma .exit)) (now (diagnostics .exit)) (now (scratch .exit)))
         ≡ fitOutcome (inputs (now (names .entry)) (now (fixed .entry)) (now (coefficients .entry)) (now (dh .entry)) (now (dd .entry)) (now (pier .entry))
-        (now (sheets .entry)) settings)
+        (now (sheets .entry)) settings) «sigma_by»
         (buffers (now (out .entry)) (now (change .entry)) (now (sigma .entry)) (now (diagnostics .entry)) (now (scratch .entry))) ⌝ }
 {
     let room = Sizes {
@@ -292,6 +298,7 @@ pub fn fit_model(
             pier,
             sheets,
             settings,
+            sigma_by,
             out,
             change,
             sigma,

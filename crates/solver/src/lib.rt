@@ -10,6 +10,12 @@ pub struct Settings {
     pub fit_tol: f64,
 }
 
+// What sigma's sum of squares is counted over: the stars, as in the Rust, or the rows, two a star.
+pub enum SigmaBy {
+    Stars,
+    Rows,
+}
+
 // How many numbers the buffers of a fit have room for.
 pub struct Sizes {
     pub coefficients: usize,

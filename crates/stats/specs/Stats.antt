@@ -10,6 +10,8 @@ use Rattle.float.specs.Float.{_⊕_, _⊖_, _⊗_, _⊘_, #0, #1, #2, abs}
 use Rattle.sqrt.specs.Sqrt as Root
 use Rattle.sequence.specs.Sequence.{at, sumTo, dot}
 use Rattle.solver.specs.declared.ObsDiagnostic.{ObsDiagnostic}
+use Rattle.solver.specs.declared.SigmaBy.{SigmaBy}
+use Rattle.solver.specs.declared.SigmaBy.the-variants.{Stars, Rows}
 use Rattle.stats.specs.declared.Sky.{Sky}
 use Rattle.design.specs.Design.{Star, skyRows}
 
@@ -23,6 +25,10 @@ count n = ofInt binary64 (pos n)
 -- so many less the parameters, and at least 1
 abbrev pub degrees : ℕ → ℕ → ℕ
 degrees n k = max (n - k) 1
+
+-- the residuals' squares over a divisor
+unfoldable pub variance : List Float → ℕ → Float
+variance r dof = dot r r ⊘ count dof
 
 -- ---- on the sky
 
@@ -52,19 +58,18 @@ skyOfSum n nFree sum = record { rms = rmsOf n sum; «popn_sd» = sdOf n nFree su
 unfoldable pub skyFrom : List Star → ℕ → List Float → Sky
 skyFrom ss nFree r = skyOfSum (length ss) nFree (sumSqSky ss r)
 
--- ---- sigma: stars less rank
+-- ---- sigma
 
-unfoldable pub variance : List Float → ℕ → ℕ → Float
-variance r n rank = dot r r ⊘ count (degrees n rank)
+-- its divisor, of n stars: stars less rank, or rows less rank
+abbrev pub divisor : SigmaBy → ℕ → ℕ → ℕ
+divisor Stars n rank = degrees n rank
+divisor Rows n rank = degrees (2 * n) rank
 
 -- that of the i-th free term, from the covariance diagonal
 abbrev pub sigmaAt : Float → List Float → ℕ → Float
 sigmaAt s2 cov i = sqrt (abs (s2 ⊗ at cov i))
 
--- ---- diagnostics: rows less rank
-
-unfoldable pub deviation : List Float → ℕ → ℕ → Float
-deviation r rows rank = sqrt (dot r r ⊘ count (degrees rows rank))
+-- ---- diagnostics
 
 -- `x.clamp(0.0, 1.0)`: a NaN stays
 unfoldable pub clamped : Float → Float

@@ -7,10 +7,11 @@ ghost use lib.ListN.{length};
 ghost use Rattle.limits.specs.Limits.{maxTerms, maxStars, sheetNumbers};
 ghost use Rattle.design.specs.Design.{sightsAt, scattered};
 ghost use Rattle.design.specs.Counted.{Below};
-ghost use Rattle.stats.specs.Stats.{degrees as degreesOf, sumSqSky, rmsOf, sdOf, skyOfSum, variance as varianceOf, sigmaAt};
+ghost use Rattle.stats.specs.Stats.{degrees as degreesOf, sumSqSky, rmsOf, sdOf, skyOfSum, divisor as divisorOf, variance as varianceOf, sigmaAt};
 ghost use Rattle.stats.specs.Stats.{clamped as clampedOf, studentizedRow, diagnostic as diagnosticOf};
 use limits::MAX_TERMS;
 use solver::ObsDiagnostic;
+use solver::SigmaBy;
 
 // What is left on the sky.
 pub struct Sky {
@@ -73,12 +74,24 @@ pub fn degrees(n: usize, k: usize) -> usize
     n - k
 }
 
-// The residuals' squares over so many less the rank.
-pub fn variance(r: &[f64], n: usize, rank: usize) -> f64
-    requires { ⌜ n ≤ 2048 ⌝ }
-    ensures { λ s. ⌜ s ≡ varianceOf (now (r .entry)) n rank ⌝ }
+// What sigma's sum of squares is divided by, of n stars.
+pub fn divisor(by: SigmaBy, n: usize, rank: usize) -> usize
+    requires { ⌜ n ≤ maxStars ⌝ }
+    ensures value { λ d. ⌜ d ≡ divisorOf by n rank ⌝ }
+    ensures bound { λ d. ⌜ d ≤ 2 * maxStars + 1 ⌝ }
 {
-    sequence::sum_squares(r) / degrees(n, rank) as f64
+    match by {
+        SigmaBy::Stars => degrees(n, rank),
+        SigmaBy::Rows => degrees(2 * n, rank),
+    }
+}
+
+// The residuals' squares over a divisor.
+pub fn variance(r: &[f64], dof: usize) -> f64
+    requires { ⌜ dof ≤ 2 * maxStars + 1 ⌝ }
+    ensures { λ s. ⌜ s ≡ varianceOf (now (r .entry)) dof ⌝ }
+{
+    sequence::sum_squares(r) / dof as f64
 }
 
 // The sigmas of the free terms, each in its place.

@@ -59,16 +59,21 @@ freeCount fixed = length (collectIndices fixed)
 
 -- ---- in order
 
--- 1 to 3 ask about lengths alone: m, n, then those of names, flags, declination differences, pier codes and sheets, and the buffers'
+-- 1 to 3, of lengths alone: m, n, then those of names, flags, declination differences, pier codes and sheets, and the buffers'
 abbrev pub sizesAsked : ℕ → ℕ → ℕ → ℕ → ℕ → ℕ → ℕ → Sizes → List Question
 sizesAsked m n names fixed dd pier sheets s = ask (inLimits m n) 1 ∷ ask (counts names fixed dd pier sheets m n) 2 ∷ ask (enoughRoom s m n) 3 ∷ []
 
--- 4 to 6 about values
-abbrev pub valuesAsked : FitInputs → IterOptions → List Question
-valuesAsked l o =
-    ask (finiteInput l && finiteOptions o) 4 ∷ ask (codesKnown (l .pier) (l .fixed)) 5 ∷ ask (leb (o .«max_iter») 1000) 6 ∷ []
+-- 1 to 4, of lengths and numbers
+abbrev pub numbersAsked : FitInputs → IterOptions → Sizes → List Question
+numbersAsked l o s =
+    sizesAsked (length (l .coefficients)) (length (l .dh)) (length (l .names)) (length (l .fixed)) (length (l .dd)) (length (l .pier)) (length (l .sheets)) s
+    ++ (ask (finiteInput l && finiteOptions o) 4 ∷ [])
 
--- 7 to 13 about names, flags, m and n
+-- 5 and 6, of codes and the limit
+abbrev pub codesAsked : List ℕ → List ℕ → ℕ → List Question
+codesAsked pier fixed limit = ask (codesKnown pier fixed) 5 ∷ ask (leb limit 1000) 6 ∷ []
+
+-- 7 to 13, of names, flags, m and n
 abbrev pub termsAsked : List ℕ → List ℕ → ℕ → ℕ → List Question
 termsAsked names fixed m n =
     let no = namesRefusal names m in
@@ -77,11 +82,9 @@ termsAsked names fixed m n =
 
 unfoldable pub asked : FitInputs → IterOptions → Sizes → Asked
 asked l o s =
-    let m = length (l .coefficients) in
-    let n = length (l .dh) in
     firstNo No Pass
-    (sizesAsked m n (length (l .names)) (length (l .fixed)) (length (l .dd)) (length (l .pier)) (length (l .sheets)) s
-    ++ (valuesAsked l o ++ termsAsked (l .names) (l .fixed) m n))
+    (numbersAsked l o s
+    ++ (codesAsked (l .pier) (l .fixed) (o .«max_iter») ++ termsAsked (l .names) (l .fixed) (length (l .coefficients)) (length (l .dh))))
 
 -- the single step takes no options: these pass questions 4 and 6
 abbrev pub noOptions : IterOptions

@@ -12,7 +12,7 @@ ghost use Rattle.terms.specs.Questions.{noOf};
 ghost use Rattle.solver.specs.Call.{FitInputs, inputs};
 ghost use Rattle.design.specs.Design.{upTo, collectIndices};
 ghost use Rattle.validate.specs.Questions.{inLimits, counts, scratchNeeded, enoughRoom, finiteSettings, finiteInput, finiteOptions, codesKnown};
-ghost use Rattle.validate.specs.Questions.{freeCount, sizesAsked, valuesAsked, termsAsked, asked, noOptions};
+ghost use Rattle.validate.specs.Questions.{freeCount, sizesAsked, numbersAsked, codesAsked, termsAsked, asked, noOptions};
 use limits::MAX_STARS;
 use limits::MAX_TERMS;
 use limits::SHEET;
@@ -193,8 +193,8 @@ fn sizes_refusal(
     0
 }
 
-// Questions 4 to 6, of values.
-fn values_refusal(
+// Questions 1 to 4, of lengths and numbers.
+pub fn numbers_refusal(
     names: &[u8],
     fixed: &[u8],
     coefficients: &[f64],
@@ -204,21 +204,42 @@ fn values_refusal(
     sheets: &[f64],
     settings: Settings,
     options: IterOptions,
+    room: Sizes,
 ) -> u8
     ghost { FitInputs }
     requires { λ l. ⌜ inputs (now names) (now fixed) (now coefficients) (now dh) (now dd) (now pier) (now sheets) settings ≡ l ⌝ }
-    ensures { λ l r. ⌜ r ≡ noOf (valuesAsked l options) ⌝ }
+    ensures { λ l r. ⌜ r ≡ noOf (numbersAsked l options room) ⌝ }
 {
+    let no_size = sizes_refusal(
+        coefficients.len(),
+        dh.len(),
+        names.len(),
+        fixed.len(),
+        dd.len(),
+        pier.len(),
+        sheets.len(),
+        room,
+    );
+    if no_size != 0 {
+        return no_size;
+    }
     if !finite_input(names, fixed, coefficients, dh, dd, pier, sheets, settings) {
         return 4;
     }
     if !finite_options(options) {
         return 4;
     }
+    0
+}
+
+// Questions 5 and 6, of codes and the limit.
+fn codes_refusal(pier: &[u8], fixed: &[u8], max_iter: usize) -> u8
+    ensures { λ r. ⌜ r ≡ noOf (codesAsked (now (pier .entry)) (now (fixed .entry)) «max_iter») ⌝ }
+{
     if !codes_known(pier, fixed) {
         return 5;
     }
-    if options.max_iter > 1000 {
+    if max_iter > 1000 {
         return 6;
     }
     0
@@ -272,22 +293,7 @@ pub fn questions(
     requires { λ l. ⌜ inputs (now names) (now fixed) (now coefficients) (now dh) (now dd) (now pier) (now sheets) settings ≡ l ⌝ }
     ensures { λ l r. ⌜ r ≡ asked l options room ⌝ }
 {
-    let m = coefficients.len();
-    let n = dh.len();
-    let no_size = sizes_refusal(
-        m,
-        n,
-        names.len(),
-        fixed.len(),
-        dd.len(),
-        pier.len(),
-        sheets.len(),
-        room,
-    );
-    if no_size != 0 {
-        return Asked::No(no_size);
-    }
-    let no_value = values_refusal(
+    let no_number = numbers_refusal(
         names,
         fixed,
         coefficients,
@@ -297,11 +303,16 @@ pub fn questions(
         sheets,
         settings,
         options,
+        room,
     );
-    if no_value != 0 {
-        return Asked::No(no_value);
+    if no_number != 0 {
+        return Asked::No(no_number);
     }
-    let no_term = terms_refusal(names, fixed, m, n);
+    let no_code = codes_refusal(pier, fixed, options.max_iter);
+    if no_code != 0 {
+        return Asked::No(no_code);
+    }
+    let no_term = terms_refusal(names, fixed, coefficients.len(), dh.len());
     if no_term != 0 {
         return Asked::No(no_term);
     }

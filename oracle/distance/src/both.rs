@@ -126,6 +126,7 @@ pub fn bare(inputs: &FitInputs, options: Option<&IterOptions>) -> Answer {
             inputs.coefficients,
             inputs.latitude,
             inputs.fit_tol,
+            inputs.sigma_by,
         ),
         Some(options) => oracle::solver::fit_model_iterated(inputs, options),
     };

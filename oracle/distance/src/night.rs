@@ -6,7 +6,7 @@ use crate::observation::{Observation, PierSide};
 use crate::random::Random;
 use crate::solver::build_residuals;
 use crate::terms::{create_term, Term};
-use oracle::questions::{Run, NAME};
+use oracle::questions::{Run, BY_STARS, NAME};
 use oracle::sheet::SHEET;
 
 /// Angles in radians, differences in arcseconds.
@@ -145,6 +145,7 @@ impl Night {
             sin_lat: libm::sin(self.latitude),
             cos_lat: libm::cos(self.latitude),
             fit_tol: self.fit_tol,
+            sigma_by: BY_STARS,
         };
         for name in &self.names {
             let mut slot = [0; NAME];

@@ -3,7 +3,7 @@
 use super::design::{cos_dec_per_obs, extract_columns};
 use super::linalg::solve_damped;
 use super::stats::{
-    compute_diagnostics, compute_popn_sd, compute_sigma_from_covariance, compute_sky_rms,
+    compute_diagnostics, compute_popn_sd, compute_sigma_from_covariance, compute_sky_rms, counted,
 };
 use super::validate::{collect_indices, validate_fit_inputs};
 use super::{FitInputs, FitResult, IterOptions, IterReport, RankInfo};
@@ -75,7 +75,8 @@ pub fn fit_model_iterated(inputs: &FitInputs<'_>, options: &IterOptions) -> Resu
         &free_residuals,
         &free_indices,
         inputs.terms.len(),
-        inputs.observations.len(),
+        // docs/SCOPE.md 9.3.1: stars or rows
+        counted(inputs, &free_residuals),
     );
     let diagnostics =
         compute_diagnostics(&free_residuals, &final_solved.leverage, final_solved.rank);

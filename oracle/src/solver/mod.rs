@@ -98,6 +98,26 @@ impl RankInfo {
     }
 }
 
+/// Beside the Rust's, docs/SCOPE.md 9.3.1: what is counted for sigma's divisor, less the rank.
+#[derive(Clone, Copy, Debug, PartialEq, Eq)]
+pub enum SigmaBy {
+    /// As the source does.
+    Stars,
+    /// The equations, of which a star gives two.
+    Rows,
+}
+
+impl SigmaBy {
+    /// docs/SCOPE.md 10.1.5: code 0 by stars, 1 by rows; another code is 5.
+    pub fn from_code(code: u8) -> Option<Self> {
+        match code {
+            0 => Some(Self::Stars),
+            1 => Some(Self::Rows),
+            _ => None,
+        }
+    }
+}
+
 /// All inputs needed to run a fit. Bundles arguments that were previously
 /// passed individually so call signatures stay readable.
 pub struct FitInputs<'a> {
@@ -109,6 +129,8 @@ pub struct FitInputs<'a> {
     // docs/SCOPE.md 3.2.3: sin and cos of the latitude are lent
     pub latitude: Latitude,
     pub fit_tol: f64,
+    // beside the Rust's, docs/SCOPE.md 9.3.1
+    pub sigma_by: SigmaBy,
 }
 
 pub fn fit_model(
@@ -118,6 +140,7 @@ pub fn fit_model(
     coefficients: &[f64],
     latitude: Latitude,
     fit_tol: f64,
+    sigma_by: SigmaBy,
 ) -> Result<FitResult> {
     let inputs = FitInputs {
         observations,
@@ -126,6 +149,7 @@ pub fn fit_model(
         coefficients,
         latitude,
         fit_tol,
+        sigma_by,
     };
     fit_model_with_inputs(&inputs)
 }

@@ -6,7 +6,7 @@ use super::design::{
 };
 use super::linalg::{solve_and_covariance, SolveOutcome};
 use super::stats::{
-    compute_diagnostics, compute_popn_sd, compute_sigma_from_covariance, compute_sky_rms,
+    compute_diagnostics, compute_popn_sd, compute_sigma_from_covariance, compute_sky_rms, counted,
 };
 use super::validate::{collect_indices, validate_fit_inputs};
 use super::{FitInputs, FitResult, IterReport, RankInfo};
@@ -26,7 +26,8 @@ pub(super) fn fit_model_with_inputs(inputs: &FitInputs<'_>) -> Result<FitResult>
         &outcome.free_residuals,
         &free_indices,
         inputs.terms.len(),
-        inputs.observations.len(),
+        // docs/SCOPE.md 9.3.1: stars or rows
+        counted(inputs, &outcome.free_residuals),
     );
     let sky_rms = compute_sky_rms(&outcome.actual_residuals_ha, inputs.observations);
     let popn_sd = compute_popn_sd(

@@ -2,7 +2,7 @@
 //! sums from 0.
 
 use super::linalg::SolveOutcome;
-use super::ObsDiagnostic;
+use super::{FitInputs, ObsDiagnostic, SigmaBy};
 use crate::libm;
 use crate::matrix::DVector;
 use crate::observation::Observation;
@@ -78,6 +78,14 @@ pub(super) fn compute_diagnostics(
         });
     }
     out
+}
+
+/// docs/SCOPE.md 9.3.1: what is handed to the source's formula in place of its number of stars.
+pub(super) fn counted(inputs: &FitInputs<'_>, residuals: &DVector) -> usize {
+    match inputs.sigma_by {
+        SigmaBy::Stars => inputs.observations.len(),
+        SigmaBy::Rows => residuals.len(),
+    }
 }
 
 pub(super) fn compute_sigma_from_covariance(

@@ -1,11 +1,12 @@
 //! The records of `replay_fit` and `replay_iterated`.
 
 use super::runs::{Case, Pool, ROBUST, SINGLE};
+use super::sigma::ByRows;
 use super::{put_doubles, Vectors};
 use crate::demand3::demand3;
 use crate::pmf::bits;
-use crate::questions::Run;
-use crate::solver::{solves, tried, FitResult};
+use crate::questions::{Run, BY_ROWS};
+use crate::solver::{solves, tried, FitResult, IterOptions};
 
 pub struct Records<'a> {
     pool: &'a Pool,
@@ -13,6 +14,7 @@ pub struct Records<'a> {
     fits: usize,
     refused: [usize; 14],
     deficient: usize,
+    rows: ByRows,
     not_numbers: usize,
     thirty: usize,
     not_settled: usize,
@@ -47,6 +49,7 @@ fn assert_limits(case: &Case) {
         assert!(*places <= required + 16);
     }
     assert!(case.places[4] <= 150_000);
+    assert!(case.run.sigma_by <= BY_ROWS);
 }
 
 /// What is lent: the counts, then the content.
@@ -69,6 +72,7 @@ fn put_case(out: &mut Vec<u8>, case: &Case) {
         out.extend(sheet.to_le_bytes());
     }
     put_doubles(out, &[run.sin_lat, run.cos_lat, run.fit_tol]);
+    out.push(run.sigma_by);
     let options = &case.options;
     put_doubles(out, &[options.tol_rad, options.initial_lambda]);
     put_doubles(out, &[options.lambda_up, options.lambda_down]);
@@ -89,7 +93,7 @@ fn floats(fit: &FitResult) -> Vec<f64> {
     out
 }
 
-fn put_fit(out: &mut Vec<u8>, fit: &FitResult) {
+pub(super) fn put_fit(out: &mut Vec<u8>, fit: &FitResult) {
     let floats = floats(fit);
     let (lists, rest) = floats.split_at(floats.len() - 5);
     put_doubles(out, lists);
@@ -101,6 +105,14 @@ fn put_fit(out: &mut Vec<u8>, fit: &FitResult) {
     out.extend([fit.sweeps as u8, fit.settled as u8]);
 }
 
+/// Whether an iterated fit returned the set of its closing solve.
+pub(super) fn closing_kept(run: &Run, options: &IterOptions, fit: &FitResult) -> bool {
+    let sets = run.with_inputs(|inputs| tried(inputs, options));
+    let sets = sets.expect("an accepted run");
+    let of = |set: &[f64]| set.iter().map(|&x| bits(x)).collect::<Vec<_>>();
+    of(&sets[sets.len() - 1]) == of(&fit.coefficients)
+}
+
 impl<'a> Records<'a> {
     pub fn new(pool: &'a Pool) -> Self {
         Self {
@@ -109,6 +121,7 @@ impl<'a> Records<'a> {
             fits: 0,
             refused: [0; 14],
             deficient: 0,
+            rows: ByRows::default(),
             not_numbers: 0,
             thirty: 0,
             not_settled: 0,
@@ -126,20 +139,22 @@ impl<'a> Records<'a> {
         let (closing, trials) = made.split_last().expect("the closing solve");
         assert_eq!((fit.sweeps, fit.settled), (closing.sweeps, closing.settled));
         if !trials.is_empty() && trials.iter().all(|t| t.sweeps != closing.sweeps) {
-            let sets = run.with_inputs(|inputs| tried(inputs, &case.options));
-            let sets = sets.expect("an accepted run");
-            let of = |set: &[f64]| set.iter().map(|&x| bits(x)).collect::<Vec<_>>();
-            let kept = of(&sets[sets.len() - 1]) == of(&fit.coefficients);
+            let kept = closing_kept(run, &case.options, fit);
             self.apart[kept as usize] += 1;
         }
     }
 
-    /// Appends a call and its answer. Demand 3 is checked of an accepted iterated fit.
+    /// Appends a call and its answer. One by rows is held to the same by stars; demand 3 is checked
+    /// of an accepted iterated fit.
     pub fn add(&mut self, case: &Case) {
         put_case(&mut self.stdin, case);
         self.fits += 1;
         let run = case.lent(self.pool);
-        match case.call(&run) {
+        let answer = case.call(&run);
+        if run.sigma_by == BY_ROWS {
+            self.rows.add(case, &run, &answer);
+        }
+        match answer {
             Err(number) => {
                 self.stdin.push(number);
                 self.refused[number as usize] += 1;
@@ -173,6 +188,7 @@ impl<'a> Records<'a> {
         let listed: usize = asked.iter().map(|&number| self.refused[number]).sum();
         assert_eq!(self.refused[0] + listed, self.fits);
         stdout += &format!("deficient {}\n", self.deficient);
+        stdout += &format!("by rows {}\n", self.rows.accepted(asked, iterated));
         stdout += &format!("not numbers {}\n", self.not_numbers);
         // a 30th sweep with a turn, and one without
         assert!(0 < self.not_settled && self.not_settled < self.thirty);

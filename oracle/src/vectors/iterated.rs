@@ -3,6 +3,7 @@
 use super::fits::Records;
 use super::random::Random;
 use super::runs::{still, Case, Maker, Pool, ITERATED, NAMES, OTHER, ROBUST, ROTATIONAL};
+use super::sigma::beside;
 use super::Vectors;
 
 const MODES: [u8; 2] = [ITERATED, ROBUST];
@@ -228,6 +229,7 @@ fn cases(maker: &mut Maker) -> Vec<Case> {
     let mut out = Vec::new();
     documented(&mut out);
     at_tolerance(&mut out);
+    let worked = out.len();
     each_option(maker, &mut out);
     long(maker, &mut out);
     regimes(maker, &mut out);
@@ -235,6 +237,8 @@ fn cases(maker: &mut Maker) -> Vec<Case> {
     out.extend(maker.refusals(&MODES, &ASKED));
     maker.in_each_scratch(&MODES, &mut out);
     out.extend(maker.by_sweeps(&MODES));
+    out.extend(beside(&out, worked));
+    out.extend(maker.by_both(&MODES, &ASKED));
     out
 }
 

@@ -10,6 +10,7 @@ pub mod model;
 pub mod names;
 pub mod random;
 pub mod runs;
+pub mod sigma;
 pub mod single_step;
 pub mod solves;
 pub mod sweeps;

@@ -4,7 +4,7 @@ use super::angles;
 use super::random::{Random, EXTREME};
 use crate::questions::{
     fit_model, fit_model_iterated, jacobian, scratch_size, scratch_size_with_design, Buffers,
-    Point, Run, NAME,
+    Point, Run, BY_STARS, NAME,
 };
 use crate::sheet::SHEET;
 use crate::solver::{FitResult, IterOptions};
@@ -269,6 +269,7 @@ pub fn still(mode: u8, dd: &[f64]) -> Case {
             sin_lat: 0.0,
             cos_lat: 1.0,
             fit_tol: 0.0,
+            sigma_by: BY_STARS,
         },
         sheets: Vec::new(),
         sheet_numbers: 0,

@@ -3,6 +3,7 @@
 use super::fits::Records;
 use super::random::Random;
 use super::runs::{still, Case, Maker, Pool, NAMES, SINGLE};
+use super::sigma::beside;
 use super::Vectors;
 
 pub const ASKED: [u8; 12] = [1, 2, 3, 4, 5, 7, 8, 9, 10, 11, 12, 13];
@@ -85,6 +86,7 @@ pub fn limits(maker: &mut Maker, out: &mut Vec<Case>) {
 fn cases(maker: &mut Maker) -> Vec<Case> {
     let mut out = Vec::new();
     documented(&mut out);
+    let worked = out.len();
     each_name(maker, &mut out);
     regimes(maker, &mut out);
     limits(maker, &mut out);
@@ -105,6 +107,8 @@ fn cases(maker: &mut Maker) -> Vec<Case> {
     }
     maker.in_each_scratch(&[SINGLE], &mut out);
     out.extend(maker.by_sweeps(&[SINGLE]));
+    out.extend(beside(&out, worked));
+    out.extend(maker.by_both(&[SINGLE], &ASKED));
     out
 }
 

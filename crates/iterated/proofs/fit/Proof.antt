@@ -64,7 +64,7 @@ returns c =
     let x = y .before .before .before .before .before .before .before .before .before in
     let n = needed (terms x) in
     run-fit (call (start n)) (run x) _ (listed-run x) (n .scratch-needed .ensures)
-    (λ k m. fittedRun k m (start n .args .coefficients .now) (start n .args .options) (lent (start n))) _ (y .fit-run .ensures)
+    (λ k m. fittedRun k (start n .args .sigma-by) m (start n .args .coefficients .now) (start n .args .options) (lent (start n))) _ (y .fit-run .ensures)
 
 pub fit-spec : {M : Type 1} → statement M
 fit-spec =

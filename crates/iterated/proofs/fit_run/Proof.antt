@@ -123,8 +123,8 @@ same-length-5 : tie.Need-same-length-5
 same-length-5 c =
     let end = c .before .before .before .before .before .before in
     let t = wrote-all (tried (changed (seen end))) in
-    let r : Renewed _ (end .finish .last .1 .1 .1 .1 .1 .1 .1 .1 .1 .0) _ =
-    record { room = scratch-fits t; kept = end .finish .kept .1 .1 .1 .1 .1 .1 .1 .1 .1 .0 } in
+    let r : Renewed _ (end .finish .last .1 .1 .1 .1 .1 .1 .1 .1 .1 .1 .0) _ =
+    record { room = scratch-fits t; kept = end .finish .kept .1 .1 .1 .1 .1 .1 .1 .1 .1 .1 .0 } in
     front-long r ∙ scratch-long t
 
 returns : tie.Need-returns
@@ -135,8 +135,8 @@ returns c =
     let x = tried change in
     let a = start (begun (looped x)) .args in
     let e = end .finish .ensures in
-    run-fitted (wrote-all x) (came x) (a .change .now) (a .sigma .now) (a .diagnostics .now) (change .changes .last .1 .1 .0) _ _
-    (end .finish .last .1 .1 .1 .1 .1 .1 .1 .1 .1 .0) (sky .sky-of-sum .result) _ (change .changes .ensures) (sky .sky-of-sum .ensures)
+    run-fitted (wrote-all x) (came x) (a .sigma-by) (a .change .now) (a .sigma .now) (a .diagnostics .now) (change .changes .last .1 .1 .0) _ _
+    (end .finish .last .1 .1 .1 .1 .1 .1 .1 .1 .1 .1 .0) (sky .sky-of-sum .result) _ (change .changes .ensures) (sky .sky-of-sum .ensures)
     (e .0) (e .1 .0) (e .1 .1 .0) (e .1 .1 .1)
 
 pub fit-run-spec : {M : Type 1} → statement M

@@ -27,14 +27,16 @@ fit-requires c κs =
 returns : tie.Need-returns
 returns c =
     let q = c .before .before .before in
-    refused (call (start q)) (lent (start q)) _ (q .before .no-options .ensures) _ (q .questions .ensures) _ (c .before .asked .given .1)
+    refused (call (start q)) (start q .args .sigma-by) (lent (start q)) _ (q .before .no-options .ensures) _ (q .questions .ensures) _
+    (c .before .asked .given .1)
 
 returns-2 : tie.Need-returns-2
 returns-2 c =
     let fit = c .before .before .before .before .before .before .before .before .before .before in
     let told = fit .before .before .before .before .before .before in
     let q = told .before .before in
-    accepted (call (start q)) (lent (start q)) _ (q .before .no-options .ensures) _ (q .questions .ensures) _ (told .enum-told .given .1) (fit .fit .ensures)
+    accepted (call (start q)) (start q .args .sigma-by) (lent (start q)) _ (q .before .no-options .ensures) _ (q .questions .ensures) _
+    (told .enum-told .given .1) (fit .fit .ensures)
 
 pub fit-model-spec : {M : Type 1} → statement M
 fit-model-spec =

@@ -145,8 +145,8 @@ same-length-5 : tie.Need-same-length-5
 same-length-5 c =
     let end = c .before .before .before .before .before .before in
     let x = end .before .before .before .before .before .before in
-    let t : Renewed _ (end .finish .last .1 .1 .1 .1 .1 .1 .1 .1 .1 .0) _ =
-    record { room = lent-fits (wrote-all x); kept = end .finish .kept .1 .1 .1 .1 .1 .1 .1 .1 .1 .0 } in
+    let t : Renewed _ (end .finish .last .1 .1 .1 .1 .1 .1 .1 .1 .1 .1 .0) _ =
+    record { room = lent-fits (wrote-all x); kept = end .finish .kept .1 .1 .1 .1 .1 .1 .1 .1 .1 .1 .0 } in
     front-long t ∙ lent-long (wrote-all x)
 
 returns : tie.Need-returns
@@ -160,8 +160,9 @@ returns c =
     let s = start x in
     let a = s .args in
     let e = end .finish .ensures in
-    run-fitted (run s) (a .coefficients .now) (a .need) (buffers (a .out .now) (a .change .now) (a .sigma .now) (a .diagnostics .now) (a .scratch .now))
-    (made x) (shown sky) (rest r) (end .finish .last .1 .1 .1 .1 .1 .1 .1 .1 .1 .0) (change .changes .last .1 .1 .0) (set .changed .last .1 .1 .0) _ _
+    run-fitted (run s) (a .sigma-by) (a .coefficients .now) (a .need)
+    (buffers (a .out .now) (a .change .now) (a .sigma .now) (a .diagnostics .now) (a .scratch .now))
+    (made x) (shown sky) (rest r) (end .finish .last .1 .1 .1 .1 .1 .1 .1 .1 .1 .1 .0) (change .changes .last .1 .1 .0) (set .changed .last .1 .1 .0) _ _
     (x .solve .result) (sky .on-the-sky .result) _ (wrote-all r) (x .solve .ensures .0) (x .solve .ensures .1) (wrote-change change) (change .changes .ensures)
     (wrote-set set) (set .changed .ensures) (sky .on-the-sky .ensures) (r .free-residuals .ensures) (e .0) (e .1 .0) (e .1 .1 .0) (e .1 .1 .1)
 

@@ -9,9 +9,7 @@ use Rattle.stats.proofs.variance.Tie as tie
 
 returns : tie.Need-returns
 unfolding variance
-returns c =
-    let value = c .before .degrees .ensures .0 in
-    rw (value, c .before .before .sum-squares .ensures) refl
+returns c = rw (c .before .sum-squares .ensures) refl
 
 pub variance-spec : {M : Type 1} → statement M
-variance-spec = tie.close (tie.spec (λ c κs. search needs) (λ c κs. search needs) (λ c. whole-in _ (omega arith)) returns)
+variance-spec = tie.close (tie.spec (λ c κs. search needs) (λ c. whole-in _ (omega arith)) returns)

@@ -34,6 +34,7 @@ mod library {
             sin_lat: run.sin_lat,
             cos_lat: run.cos_lat,
             fit_tol: run.fit_tol,
+            sigma_by: run.sigma_by,
         };
         let mut buffers = pointing::Buffers {
             coefficients: &mut b.coefficients,
