@@ -31,7 +31,10 @@ fn main() {
         let slot = slot(name);
         let ours = pointing::read_term(&slot);
         match read_term(&slot) {
-            Ok(term) => assert_eq!((ours.refusal, ours.name), (0, stored_name(term.as_ref()))),
+            Ok(term) => assert_eq!(
+                (ours.refusal, ours.name, ours.pier_sensitive),
+                (0, stored_name(term.as_ref()), term.pier_sensitive())
+            ),
             Err(number) => assert_eq!(ours.refusal, number),
         }
         let least = by_turns(
@@ -105,12 +108,13 @@ fn main() {
         );
         report(&format!("a correction of {m} terms"), least);
         let parts = pointing::predict_breakdown(&names, &coefficients, &ours);
-        let pairs = predict_breakdown_lent(&model, &theirs).expect("a model");
-        for (j, (h, d)) in pairs.into_iter().enumerate() {
+        let given = predict_breakdown_lent(&model, &theirs).expect("a model");
+        for (j, (h, d, pier_sensitive)) in given.into_iter().enumerate() {
             assert_eq!(
                 [parts.dh[j], parts.dd[j]].map(f64::to_bits),
                 [h, d].map(f64::to_bits)
             );
+            assert_eq!(parts.pier_sensitive[j], pier_sensitive);
         }
         let least = by_turns(
             lasting,

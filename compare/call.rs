@@ -4,11 +4,12 @@ use crate::pointing::{self, FitAnswer, FitOptions, Pair};
 use oracle::libm;
 use oracle::questions::{self, LentModel, Run, BY_ROWS, BY_STARS, MAX_TERMS};
 use oracle::solver::{FitResult, IterOptions};
+use oracle::terms::Term;
 use oracle::vectors::jacobians::Block;
 use oracle::vectors::names::describe;
 use oracle::vectors::random::Random;
 use oracle::vectors::runs::{ROBUST, SINGLE};
-use std::fmt::Display;
+use std::fmt::{Debug, Display};
 
 /// A call of a fit. The buffers have `places` places, and hold what `fill` gives.
 #[derive(Clone)]
@@ -51,7 +52,7 @@ fn same(a: f64, b: f64) -> bool {
     a.to_bits() == b.to_bits() || (a.is_nan() && b.is_nan())
 }
 
-fn check<T: PartialEq + std::fmt::Debug>(what: &str, ours: T, theirs: T) -> Checked<()> {
+fn check<T: PartialEq + Debug>(what: impl Display, ours: T, theirs: T) -> Checked<()> {
     if ours == theirs {
         return Ok(());
     }
@@ -159,9 +160,8 @@ fn lent(model: &Model) -> LentModel<'_> {
     }
 }
 
-fn compare_name(slot: &[u8]) -> Checked<Seen> {
-    let ours = pointing::read_term(slot);
-    let theirs = questions::read_term(slot);
+/// What the library should read a slot as.
+fn expected_term(theirs: Result<Box<dyn Term>, u8>) -> pointing::Term {
     let mut expected = pointing::Term {
         refusal: theirs.as_ref().err().copied().unwrap_or(0),
         kind: 0,
@@ -172,6 +172,7 @@ fn compare_name(slot: &[u8]) -> Checked<Seen> {
         functions: [0; 7],
         coordinates: [0; 7],
         frequencies: [0; 7],
+        pier_sensitive: false,
     };
     if let Ok(term) = theirs {
         let description = describe(term.as_ref());
@@ -179,22 +180,31 @@ fn compare_name(slot: &[u8]) -> Checked<Seen> {
         [expected.kind, expected.number, expected.result] =
             [description[0], description[1], description[2]];
         expected.count = description[3];
-        for (i, component) in description[4..].chunks(3).enumerate() {
+        expected.pier_sensitive = description[4] == 1;
+        for (i, component) in description[5..].chunks(3).enumerate() {
             expected.functions[i] = component[0];
             expected.coordinates[i] = component[1];
             expected.frequencies[i] = component[2];
         }
     }
+    expected
+}
+
+fn compare_name(slot: &[u8]) -> Checked<Seen> {
+    let ours = pointing::read_term(slot);
+    let expected = expected_term(questions::read_term(slot));
     check("term", ours, expected)?;
-    let sort = match (expected.refusal, expected.kind) {
-        (1.., _) => None,
-        (0, 8) => Some("TXN"),
-        (0, 15) => Some("harmonics"),
-        _ => Some("fixed names"),
+    let traits: &[&'static str] = match (expected.refusal, expected.kind, expected.pier_sensitive) {
+        (1.., ..) => &[],
+        (0, 8, _) => &["TXN"],
+        (0, 15, false) => &["harmonics"],
+        (0, 15, true) => &["harmonics", "harmonics, pier sensitive"],
+        (0, _, false) => &["fixed names"],
+        (0, _, true) => &["fixed names", "fixed names, pier sensitive"],
     };
     Ok(Seen {
         refusal: expected.refusal,
-        traits: sort.into_iter().collect(),
+        traits: traits.to_vec(),
     })
 }
 
@@ -215,19 +225,25 @@ fn compare_breakdown(model: &Model, block: &Block) -> Checked<Seen> {
     let ours = pointing::predict_breakdown(&model.names, &model.coefficients, &point(block));
     let theirs = questions::predict_breakdown_lent(&lent(model), &oracle_point(block));
     let refusal = theirs.as_ref().err().copied().unwrap_or(0);
-    let pairs = theirs.unwrap_or_default();
+    let parts = theirs.unwrap_or_default();
     check("refusal", ours.refusal, refusal)?;
     for j in 0..MAX_TERMS {
-        let (dh, dd) = pairs.get(j).copied().unwrap_or((0.0, 0.0));
+        let (dh, dd, flag) = parts.get(j).copied().unwrap_or((0.0, 0.0, false));
         check_float(format_args!("dh {j}"), ours.dh[j], dh)?;
         check_float(format_args!("dd {j}"), ours.dd[j], dd)?;
+        let what = format_args!("pier_sensitive {j}");
+        check(what, ours.pier_sensitive[j], flag)?;
     }
-    let nan = pairs.iter().any(|(h, d)| h.is_nan() || d.is_nan());
-    let full = pairs.len() == MAX_TERMS;
-    let traits = [(nan, "not numbers"), (full, "32 terms")];
+    let nan = parts.iter().any(|(h, d, _)| h.is_nan() || d.is_nan());
+    let any = |sensitive: bool| parts.iter().any(|&(.., flag)| flag == sensitive);
     Ok(Seen {
         refusal,
-        traits: chosen(&traits),
+        traits: chosen(&[
+            (nan, "not numbers"),
+            (parts.len() == MAX_TERMS, "32 terms"),
+            (any(true), "pier-sensitive terms"),
+            (any(true) && any(false), "pier-sensitive and other terms"),
+        ]),
     })
 }
 

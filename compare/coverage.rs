@@ -27,6 +27,12 @@ const OF_FITS: [&str; 12] = [
     "30 sweeps, not settled",
     "30 sweeps, settled",
 ];
+const OF_BREAKDOWNS: [&str; 4] = [
+    "not numbers",
+    "32 terms",
+    "pier-sensitive terms",
+    "pier-sensitive and other terms",
+];
 const OF_ITERATED: [&str; 3] = ["converged", "not converged", "100 iterations or more"];
 
 fn single() -> Expected {
@@ -68,7 +74,13 @@ fn expected() -> [Expected; 9] {
             call: "read_term",
             refusals: &[2, 7, 8, 9, 10],
             regimes: names::REGIMES.map(|(name, _)| name).to_vec(),
-            traits: vec!["fixed names", "TXN", "harmonics"],
+            traits: vec![
+                "fixed names",
+                "TXN",
+                "harmonics",
+                "fixed names, pier sensitive",
+                "harmonics, pier sensitive",
+            ],
         },
         Expected {
             call: "jacobian",
@@ -77,7 +89,7 @@ fn expected() -> [Expected; 9] {
             traits: vec!["not numbers"],
         },
         of_model("apply_equatorial", &["not numbers"]),
-        of_model("predict_breakdown", &["not numbers", "32 terms"]),
+        of_model("predict_breakdown", &OF_BREAKDOWNS),
         Expected {
             call: "scratch_length",
             refusals: &[1],

@@ -94,20 +94,26 @@ static unsigned long long bits(double x) {
     return b;
 }
 
+static pointing_term term(size_t j) { return pointing_read_term(names + 16 * j, 16); }
+
 /* The name in slot j as it is stored. */
 static const char *stored(size_t j) {
     static char name[17];
-    memcpy(name, pointing_read_term(names + 16 * j, 16).name, 16);
+    memcpy(name, term(j).name, 16);
     return name;
 }
+
+/* The listing's word for a term: `pier` where it turns with the pier side, `both` where both sides have the same. */
+static const char *word(bool pier_sensitive) { return pier_sensitive ? "pier" : "both"; }
 
 static void print_fit(const pointing_fit_answer *answer) {
     printf("%zu free, rank %zu, %zu iterations, %s, %zu sweeps, %s\n", answer->n_free, answer->rank, answer->iterations,
            answer->converged ? "converged" : "not converged", answer->sweeps, answer->settled ? "settled" : "not settled");
     if (!answer->settled) printf("look at this fit with care: after %zu sweeps, the most, its terms were still being told apart\n", answer->sweeps);
-    printf("%-16s %14s %14s   their bits\n", "term", "coefficient", "sigma");
+    printf("%-16s %14s %14s   %-33s sides\n", "term", "coefficient", "sigma", "their bits");
     for (size_t j = 0; j < m; j++)
-        printf("%-16s %14.6f %14.6f   %016llx %016llx\n", stored(j), coefficients[j], sigma[j], bits(coefficients[j]), bits(sigma[j]));
+        printf("%-16s %14.6f %14.6f   %016llx %016llx %s\n", stored(j), coefficients[j], sigma[j], bits(coefficients[j]), bits(sigma[j]),
+               word(term(j).pier_sensitive));
     printf("%-16s %14.6f %14.6f   %016llx %016llx\n", "sky", answer->sky_rms, answer->popn_sd, bits(answer->sky_rms), bits(answer->popn_sd));
 }
 
@@ -133,7 +139,8 @@ static int point_at(double hours, double degrees, const char *side) {
         return 1;
     }
     printf("at hour angle %.4f h, declination %.4f deg, pier %s: arcseconds in hour angle and declination\n", hours, degrees, side);
-    for (size_t j = 0; j < m; j++) printf("%-16s %14.6f %14.6f\n", stored(j), parts.dh[j], parts.dd[j]);
+    printf("(pier: the other sign from the other side; both: the same from both sides)\n");
+    for (size_t j = 0; j < m; j++) printf("%-16s %14.6f %14.6f %s\n", stored(j), parts.dh[j], parts.dd[j], word(parts.pier_sensitive[j]));
     printf("%-16s %14.6f %14.6f\n", "together", sum.dh, sum.dd);
     printf("send the mount to hour angle %.6f h, declination %.6f deg\n", hours + sum.dh / 54000, degrees + sum.dd / 3600);
     return 0;

@@ -145,6 +145,14 @@ fn stored(slot: &[u8]) -> String {
     String::from_utf8_lossy(&name).trim_end_matches('\0').into()
 }
 
+/// The listing's word for a term: `pier` where it turns with the pier side, `both` where both sides have the same.
+fn word(pier_sensitive: bool) -> &'static str {
+    match pier_sensitive {
+        true => "pier",
+        false => "both",
+    }
+}
+
 fn print_fit(run: &Run, fit: &Fit) {
     let answer = &fit.answer;
     println!(
@@ -167,17 +175,19 @@ fn print_fit(run: &Run, fit: &Fit) {
         println!("look at this fit with care: after {sweeps} sweeps, the most, its terms were still being told apart");
     }
     println!(
-        "{:<16} {:>14} {:>14}   their bits",
-        "term", "coefficient", "sigma"
+        "{:<16} {:>14} {:>14}   {:<33} sides",
+        "term", "coefficient", "sigma", "their bits"
     );
     let line = |name: &str, a: f64, b: f64| {
         let (x, y) = (a.to_bits(), b.to_bits());
-        println!("{name:<16} {a:>14.6} {b:>14.6}   {x:016x} {y:016x}");
+        format!("{name:<16} {a:>14.6} {b:>14.6}   {x:016x} {y:016x}")
     };
     for (j, slot) in run.names.chunks(NAME).enumerate() {
-        line(&stored(slot), fit.coefficients[j], fit.sigma[j]);
+        let numbers = line(&stored(slot), fit.coefficients[j], fit.sigma[j]);
+        let sides = word(pointing::read_term(slot).pier_sensitive);
+        println!("{numbers} {sides}");
     }
-    line("sky", answer.sky_rms, answer.popn_sd);
+    println!("{}", line("sky", answer.sky_rms, answer.popn_sd));
 }
 
 /// The sheet of an hour angle and a declination, in radians.
@@ -213,12 +223,14 @@ fn point_at(run: &Run, coefficients: &[f64], hours: f64, degrees: f64, side: &st
         return ExitCode::FAILURE;
     }
     println!("at hour angle {hours:.4} h, declination {degrees:.4} deg, pier {side}: arcseconds in hour angle and declination");
+    println!("(pier: the other sign from the other side; both: the same from both sides)");
     for (j, slot) in run.names.chunks(NAME).enumerate() {
         println!(
-            "{:<16} {:>14.6} {:>14.6}",
+            "{:<16} {:>14.6} {:>14.6} {}",
             stored(slot),
             parts.dh[j],
-            parts.dd[j]
+            parts.dd[j],
+            word(parts.pier_sensitive[j])
         );
     }
     println!("{:<16} {:>14.6} {:>14.6}", "together", sum.dh, sum.dd);

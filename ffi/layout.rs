@@ -16,8 +16,7 @@ macro_rules! layout {
     };
 }
 
-fn main() {
-    println!("#include \"pointing.h\"");
+fn constants() {
     for (name, value) in [
         ("NAME", NAME),
         ("SHEET", SHEET),
@@ -28,6 +27,9 @@ fn main() {
     ] {
         println!("_Static_assert(POINTING_{name} == {value}, \"{name}\");");
     }
+}
+
+fn terms_and_points() {
     layout!(Scratch, "pointing_scratch", refusal, length);
     layout!(
         Term,
@@ -40,10 +42,21 @@ fn main() {
         name,
         functions,
         coordinates,
-        frequencies
+        frequencies,
+        pier_sensitive
     );
     layout!(Pair, "pointing_pair", refusal, dh, dd);
-    layout!(Breakdown, "pointing_breakdown", refusal, dh, dd);
+    layout!(
+        Breakdown,
+        "pointing_breakdown",
+        refusal,
+        dh,
+        dd,
+        pier_sensitive
+    );
+}
+
+fn fits() {
     layout!(
         FitOptions,
         "pointing_fit_options",
@@ -73,4 +86,11 @@ fn main() {
         sweeps,
         settled
     );
+}
+
+fn main() {
+    println!("#include \"pointing.h\"");
+    constants();
+    terms_and_points();
+    fits();
 }

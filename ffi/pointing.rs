@@ -26,7 +26,7 @@ pub struct Scratch {
     pub length: usize,
 }
 
-/// What a name is read as; all 0 but `refusal` where it is refused.
+/// What a name is read as; all 0 and false but `refusal` where it is refused.
 #[repr(C)]
 #[derive(Debug, Clone, Copy, PartialEq, Eq)]
 pub struct Term {
@@ -46,6 +46,8 @@ pub struct Term {
     /// H D A E Z are 0 to 4.
     pub coordinates: [u8; 7],
     pub frequencies: [u8; 7],
+    /// The Jacobian turns with the pier side: ID, CH, NP and the harmonics of result P.
+    pub pier_sensitive: bool,
 }
 
 /// An hour-angle and a declination number.
@@ -57,13 +59,14 @@ pub struct Pair {
     pub dd: f64,
 }
 
-/// Each term's contributions, then zeros.
+/// Each term's contributions and whether they turn with the pier side, as `read_term` has it of the name; then zeros and false.
 #[repr(C)]
 #[derive(Debug, Clone, Copy)]
 pub struct Breakdown {
     pub refusal: u8,
     pub dh: [f64; MAX_TERMS],
     pub dd: [f64; MAX_TERMS],
+    pub pier_sensitive: [bool; MAX_TERMS],
 }
 
 /// The options of the iterated fit.

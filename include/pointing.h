@@ -30,7 +30,11 @@
  * A sheet is 37 numbers of one star or point: sin h, cos h, sin 2h, cos 2h, .. sin 9h, cos 9h, the same of the declination, tan dec; h is the
  * hour angle. They are read as they stand. Sheet i of a run begins at 37 * i.
  *
- * A pier code is 0 unknown, 1 East, 2 West.
+ * A pier code is 0 unknown, 1 East, 2 West; unknown counts as East.
+ *
+ * A term is pier sensitive where its Jacobian turns with the pier side: ID, CH, NP and the harmonics of result P. Proved of each of these: there is a
+ * sheet at which East and West differ, if only in the sign of a zero (`HPSA`, whose sine is 0 everywhere). Proved of every other term: its Jacobian is
+ * the same for every pier code, at every sheet and latitude.
  *
  * Extreme numbers can overflow: an answer may then hold infinities, or NaNs, whose bits mean nothing.
  *
@@ -43,7 +47,7 @@
  * The library keeps no state, allocates nothing, and calls nothing but memcpy and memset. Calls may be made at the same time from several
  * threads, on buffers that do not overlap. A pointer must lead to as many values as its length says, aligned as C asks; one of length 0 is not
  * read or written, and may be null: names NULL, 0 and coefficients NULL, 0 are the empty model. Buffers must overlap neither each other nor what is
- * read. */
+ * read. Answers are handed over by value, whole structs: a program is to be compiled with the header of the library that it links. */
 
 #ifndef POINTING_H
 #define POINTING_H
@@ -99,6 +103,7 @@ typedef struct {
     uint8_t functions[7];   /* of each component: sin 0, cos 1 */
     uint8_t coordinates[7]; /* H D A E Z are 0 to 4 */
     uint8_t frequencies[7]; /* 1 to 9 */
+    bool pier_sensitive;    /* the Jacobian turns with the pier side */
 } pointing_term;
 
 pointing_term pointing_read_term(const uint8_t *slot, size_t slot_len);
@@ -117,10 +122,12 @@ pointing_pair pointing_jacobian(const uint8_t *name, size_t name_len, const doub
 pointing_pair pointing_apply_equatorial(const uint8_t *names, size_t names_len, const double *coefficients, size_t coefficients_len,
                                         const double *sheet, size_t sheet_len, double sin_lat, double cos_lat, uint8_t pier);
 
-/* What each term adds to it: a pair for each term, then zeros. The same questions. */
+/* What each term adds to it, and whether that turns with the pier side: a pair and a flag for each term, then zeros and false. The flags are those of
+ * the names, as pointing_read_term has them. The same questions. */
 typedef struct {
     uint8_t refusal;
-    double dh[32], dd[32];
+    double dh[POINTING_MAX_TERMS], dd[POINTING_MAX_TERMS];
+    bool pier_sensitive[POINTING_MAX_TERMS];
 } pointing_breakdown;
 
 pointing_breakdown pointing_predict_breakdown(const uint8_t *names, size_t names_len, const double *coefficients, size_t coefficients_len,

@@ -1,7 +1,16 @@
-/* Tests what include/pointing.h says at the edges: null pointers of length 0, fixed coefficients of -0, the length of scratch, what a fit reports of
- * itself, and sigma by stars and by rows. */
+/* Tests what include/pointing.h says at the edges: null pointers of length 0, which terms are pier sensitive, fixed coefficients of -0, the length of
+ * scratch, what a fit reports of itself, and sigma by stars and by rows. */
+
+#include <ctype.h>
 
 #include "stars.h"
+
+/* Whether a breakdown has the refusal and nothing in its places. */
+static bool empty(pointing_breakdown parts, uint8_t refusal) {
+    bool held = parts.refusal == refusal;
+    for (int j = 0; j < POINTING_MAX_TERMS; j++) held = held && bits(parts.dh[j]) == 0 && bits(parts.dd[j]) == 0 && !parts.pier_sensitive[j];
+    return held;
+}
 
 static pointing_fit_answer without_anything(void) {
     return pointing_fit_model(NULL, 0, NULL, 0, NULL, 0, NULL, 0, NULL, 0, NULL, 0, NULL, 0, 0.5, 0.8, 1e-12, POINTING_BY_STARS, NULL, 0, NULL, 0, NULL, 0,
@@ -46,14 +55,118 @@ static void null_points(void) {
     expect(pointing_apply_equatorial(NULL, 0, NULL, 0, NULL, 0, 0.5, 0.8, 1).refusal == 2, "no sheet gives 2");
     expect(pointing_apply_equatorial(NULL, 0, start, 1, sheets, 37, 0.5, 0.8, 1).refusal == 2, "no names for a coefficient give 2");
     expect(pointing_apply_equatorial(names, 16, NULL, 0, sheets, 37, 0.5, 0.8, 1).refusal == 2, "no coefficient for a name gives 2");
-    pointing_breakdown parts = pointing_predict_breakdown(NULL, 0, NULL, 0, sheets, 37, 0.5, 0.8, 1);
-    bool zeros = parts.refusal == 0;
-    for (int j = 0; j < 32; j++) zeros = zeros && bits(parts.dh[j]) == 0 && bits(parts.dd[j]) == 0;
-    expect(zeros, "the empty model at null pointers has no parts");
-    expect(pointing_predict_breakdown(NULL, 0, NULL, 0, NULL, 0, 0.5, 0.8, 1).refusal == 2, "no sheet gives 2");
+    expect(empty(pointing_predict_breakdown(NULL, 0, NULL, 0, sheets, 37, 0.5, 0.8, 1), 0), "the empty model at null pointers has no parts");
+    expect(empty(pointing_predict_breakdown(NULL, 0, NULL, 0, NULL, 0, 0.5, 0.8, 1), 2), "no sheet gives 2");
     expect(pointing_jacobian(NULL, 0, sheets, 37, 0.5, 0.8, 1).refusal == 2, "no slot gives 2");
     expect(pointing_jacobian(names, 16, NULL, 0, 0.5, 0.8, 1).refusal == 2, "no sheet gives 2");
     expect(pointing_read_term(NULL, 0).refusal == 2, "no slot gives 2");
+}
+
+/* Names, and whether their terms are pier sensitive: ID, CH, NP and the harmonics of result P, no others. */
+typedef struct {
+    const char *name;
+    bool sensitive;
+} flagged;
+
+enum { FLAGGED = 30 };
+
+static const flagged terms[FLAGGED] = {
+    {"IH", false},   {"ID", true},     {"CH", true},     {"NP", true},   {"MA", false},   {"ME", false},   {"TF", false},      {"TX", false},
+    {"TX1", false},  {"TX+05", false}, {"TX255", false}, {"DAF", false}, {"FO", false},   {"HCES", false}, {"HCEC", false},    {"DCES", false},
+    {"DCEC", false}, {"HHSH", false},  {"HDCD2", false}, {"HPSH", true}, {"HPCD9", true}, {"HPCA", true},  {"HXSHCD2", false}, {"HASH", false},
+    {"HECD", false}, {"HZSZ", false},  {"HSCE3", false}, {"HPSHCDSHCDSHCDSH", true},      {"HHSHCDSHCDSHCDSH", false},
+    {"HPSA", true}, /* sin A is 0: East's and West's zeros differ in their sign */
+};
+
+/* Names that are refused, and with what number. */
+typedef struct {
+    const char *name;
+    uint8_t no;
+} refused;
+
+enum { REFUSED = 16 };
+
+static const refused no_terms[REFUSED] = {
+    {"", 7},    {"IA", 8},  {"IE", 8}, {"CA", 8},  {"NPAE", 8}, {"AN", 8},   {"AW", 8},     {"TX0", 9},
+    {"IDS", 9}, {"TXP", 9}, {"P", 9},  {"NPP", 9}, {"HP", 10},  {"HPS", 10}, {"HPSH0", 10}, {"HPSHP", 10},
+};
+
+/* Puts a name in a slot, as it stands or in small letters. */
+static void put_name(uint8_t *slot, const char *name, bool small) {
+    memset(slot, 0, POINTING_NAME);
+    for (size_t i = 0; i < strlen(name); i++) slot[i] = (uint8_t)(small ? tolower(name[i]) : name[i]);
+}
+
+/* Expects it of what has a name. */
+static void expect_of(const char *name, bool held, const char *what) {
+    char text[160];
+    snprintf(text, sizeof text, "'%s': %s", name, what);
+    expect(held, text);
+}
+
+/* Every name is told, and a refused one is not pier sensitive. */
+static void sensitive_names(bool small) {
+    uint8_t slot[POINTING_NAME];
+    for (int j = 0; j < FLAGGED; j++) {
+        put_name(slot, terms[j].name, small);
+        const pointing_term read = pointing_read_term(slot, POINTING_NAME);
+        expect_of(terms[j].name, read.refusal == 0 && read.pier_sensitive == terms[j].sensitive, "a name tells whether it is pier sensitive");
+    }
+    for (int j = 0; j < REFUSED; j++) {
+        put_name(slot, no_terms[j].name, small);
+        const pointing_term read = pointing_read_term(slot, POINTING_NAME);
+        expect_of(no_terms[j].name, read.refusal == no_terms[j].no && !read.pier_sensitive, "a refused name is not pier sensitive");
+    }
+    expect(!pointing_read_term(NULL, 0).pier_sensitive, "a slot that is not there is not pier sensitive");
+}
+
+/* The breakdown of all those terms, with coefficients 1, 2, 3 and so on, at the run's first star. */
+static pointing_breakdown of_terms(uint8_t side, bool small) {
+    uint8_t slots[POINTING_NAME * FLAGGED];
+    double coefficients[FLAGGED];
+    for (int j = 0; j < FLAGGED; j++) put_name(slots + POINTING_NAME * j, terms[j].name, small), coefficients[j] = j + 1;
+    return pointing_predict_breakdown(slots, sizeof slots, coefficients, FLAGGED, sheets, 37, 0.5, 0.8, side);
+}
+
+static bool alike(pointing_breakdown a, pointing_breakdown b, int j) { return bits(a.dh[j]) == bits(b.dh[j]) && bits(a.dd[j]) == bits(b.dd[j]); }
+
+/* Each flag is its name's. What has it changes its sign between East and West, nothing else changes, and unknown is as East. */
+static void sensitive_parts(bool small) {
+    const pointing_breakdown east = of_terms(POINTING_EAST, small), west = of_terms(POINTING_WEST, small), unknown = of_terms(POINTING_UNKNOWN, small);
+    expect(east.refusal == 0 && west.refusal == 0 && unknown.refusal == 0, "every term has its part");
+    for (int j = 0; j < POINTING_MAX_TERMS; j++) {
+        const char *name = j < FLAGGED ? terms[j].name : "behind the terms";
+        const bool sensitive = j < FLAGGED && terms[j].sensitive;
+        const bool flags = east.pier_sensitive[j] == sensitive && west.pier_sensitive[j] == sensitive && unknown.pier_sensitive[j] == sensitive;
+        expect_of(name, flags, "a part has the flag of its name, from every side");
+        expect_of(name, alike(east, unknown, j), "unknown is as East");
+        expect_of(name, alike(east, west, j) == !sensitive, "East and West differ where it is pier sensitive, and nowhere else");
+        expect_of(name, !sensitive || (east.dh[j] == -west.dh[j] && east.dd[j] == -west.dd[j]), "West has the other sign");
+    }
+}
+
+/* Breakdowns that are refused have no flag, though ID, CH and NP stand first. */
+static void refused_parts(void) {
+    const double four[4] = {1, 2, 3, 4}, no_number[4] = {1, 2, 3, NAN}, many[33] = {0};
+    static uint8_t slots[POINTING_NAME * 33];
+    for (int j = 0; j < 33; j++) put_name(slots + POINTING_NAME * j, terms[1 + j % 3].name, false);
+    expect(empty(pointing_predict_breakdown(slots, 16 * 33, many, 33, sheets, 37, 0.5, 0.8, 1), 1), "33 terms give 1 and no flag");
+    expect(empty(pointing_predict_breakdown(slots, 16 * 4 - 1, four, 4, sheets, 37, 0.5, 0.8, 1), 2), "a byte too few gives 2 and no flag");
+    expect(empty(pointing_predict_breakdown(slots, 16 * 4, four, 4, sheets, 36, 0.5, 0.8, 1), 2), "a short sheet gives 2 and no flag");
+    expect(empty(pointing_predict_breakdown(slots, 16 * 4, no_number, 4, sheets, 37, 0.5, 0.8, 1), 4), "a NaN gives 4 and no flag");
+    expect(empty(pointing_predict_breakdown(slots, 16 * 4, four, 4, sheets, 37, 0.5, INFINITY, 1), 4), "an infinite latitude gives 4 and no flag");
+    expect(empty(pointing_predict_breakdown(slots, 16 * 4, four, 4, sheets, 37, 0.5, 0.8, 3), 5), "a pier code of 3 gives 5 and no flag");
+    for (int j = 0; j < REFUSED; j++) {
+        put_name(slots + POINTING_NAME * 3, no_terms[j].name, false);
+        const pointing_breakdown parts = pointing_predict_breakdown(slots, 16 * 4, four, 4, sheets, 37, 0.5, 0.8, 1);
+        expect_of(no_terms[j].name, empty(parts, no_terms[j].no), "behind ID, CH and NP it gives its number and no flag");
+    }
+}
+
+static void pier_sensitive(void) {
+    fill(1);
+    for (int small = 0; small < 2; small++) sensitive_names(small == 1), sensitive_parts(small == 1);
+    refused_parts();
 }
 
 /* A fixed -0: the single step makes it +0, the iterated fit keeps its bits; another fixed coefficient stays. */
@@ -119,8 +232,8 @@ static bool made(pointing_fit_answer said, size_t sweeps, bool settled) { return
 
 /* The run's fit of two terms, both free: the single step or the iterated one. */
 static pointing_fit_answer of_two(const char *first, const char *second, bool iterate) {
-    uint8_t two[2 * POINTING_NAME] = {0};
-    memcpy(two, first, strlen(first)), memcpy(two + POINTING_NAME, second, strlen(second));
+    uint8_t two[2 * POINTING_NAME];
+    put_name(two, first, false), put_name(two + POINTING_NAME, second, false);
     if (iterate)
         return pointing_fit_model_iterated(two, 32, fixed, 2, start, 2, dh, N, dd, N, pier, N, sheets, 37 * N, 0.5, 0.8, 1e-12, POINTING_BY_STARS, options,
                                            out, M, change, M, sigma, M, diagnostics, 3 * N, scratch, SCRATCH);
@@ -191,8 +304,7 @@ static void lay(const four_call *call) {
         dh[i] = 0, dd[i] = i % 2 == 0 ? -10 : -20, pier[i] = POINTING_EAST;
     }
     dd[0] = call->first, pier[0] = call->pier;
-    memset(four_names, 0, sizeof four_names);
-    for (int j = 0; j < 33; j++) memcpy(four_names + 16 * j, call->name, strlen(call->name)), four_fixed[j] = j == 0 ? call->fixed : 1;
+    for (int j = 0; j < 33; j++) put_name(four_names + 16 * j, call->name, false), four_fixed[j] = j == 0 ? call->fixed : 1;
 }
 
 /* All that a fit may write, as it stands. */
@@ -283,9 +395,7 @@ static void choices(void) {
         for (int k = 0; k < (iterate ? CALLS : CALLS - OF_OPTIONS); k++) {
             bool held = true;
             for (int choice = 0; choice < 256; choice++) held = answered(&calls[k], (uint8_t)choice, iterate) && held;
-            char what[100];
-            snprintf(what, sizeof what, "%s, %s: every choice is answered in its order", iterate ? "iterated" : "single step", calls[k].what);
-            expect(held, what);
+            expect_of(calls[k].what, held, iterate ? "iterated, every choice is answered in its order" : "every choice is answered in its order");
         }
     }
 }
@@ -293,6 +403,7 @@ static void choices(void) {
 int main(void) {
     null_fits();
     null_points();
+    pier_sensitive();
     fixed_coefficients();
     scratch_lengths();
     reports();

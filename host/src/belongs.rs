@@ -1,7 +1,7 @@
-//! Whether a listing is that of a file: the same terms, counts and, worked out again, sky RMS.
+//! Whether a listing is that of a file: the same terms with their words, counts and, worked out again, sky RMS.
 
 use crate::fault::Fault;
-use crate::listing::Fit;
+use crate::listing::{pier_or_both, Fit};
 use crate::refusal;
 use crate::residuals::{residuals, rms, Residual};
 use crate::run::{Mode, Run};
@@ -29,6 +29,7 @@ pub fn pair(run: Run, fit: Fit) -> Result<Fitted, Fault> {
         )));
     }
     let kinds = kinds(&run, &fit)?;
+    sides(&kinds, &fit)?;
     counts(&run, &fit)?;
     fixed(&run, &fit)?;
     let coefficients: Vec<f64> = fit.terms.iter().map(|t| t.coefficient).collect();
@@ -63,6 +64,22 @@ fn kinds(run: &Run, fit: &Fit) -> Result<Vec<Kind>, Fault> {
         }
     }
     Ok(kinds)
+}
+
+fn sides(kinds: &[Kind], fit: &Fit) -> Result<(), Fault> {
+    for (j, (kind, line)) in kinds.iter().zip(&fit.terms).enumerate() {
+        if kind.pier_sensitive() != line.pier_sensitive {
+            let [listed, expected] = [line.pier_sensitive, kind.pier_sensitive()].map(pier_or_both);
+            return Err(Fault::at(
+                j + 2,
+                format!(
+                    "the listing says '{listed}' of {}: expected '{expected}'",
+                    line.name
+                ),
+            ));
+        }
+    }
+    Ok(())
 }
 
 fn counts(run: &Run, fit: &Fit) -> Result<(), Fault> {

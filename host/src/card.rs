@@ -1,12 +1,20 @@
 //! The card of a fit: plain text that a student can read.
 
 use crate::belongs::Fitted;
+use crate::listing::pier_or_both;
 use crate::number::shown;
 use crate::residuals::rms;
 use crate::run::{Mode, Pier};
 
 /// A star farther off than this many times the sky RMS is pointed out (the published `BADNESS_K`).
 const FAR: f64 = 2.5;
+
+/// What the column of the sides means.
+const SIDES: &str = "\
+Sides: a term marked 'pier' flips with the mount: what it adds changes its sign when the tube changes
+sides of the pier (unknown counts as East). A term marked 'both' adds the same on both sides.
+Stars on one side alone can't show which errors flip: observe on both.
+";
 
 /// The whole card; `file` is the name of the PMF file.
 pub fn card(file: &str, fitted: &Fitted) -> String {
@@ -98,8 +106,8 @@ fn terms(out: &mut String, fitted: &Fitted) {
     let names = fitted.fit.terms.iter().map(|t| t.name.len());
     let width = names.max().unwrap_or(0).max(4);
     *out += &format!(
-        "\n{:<width$}  {:>13}  {:>11}  {:>13}  {:<5}  Description\n",
-        "Term", "Coefficient", "Sigma", "Start", "State"
+        "\n{:<width$}  {:>13}  {:>11}  {:>13}  {:<5}  {:<5}  Description\n",
+        "Term", "Coefficient", "Sigma", "Start", "State", "Sides"
     );
     for ((line, term), kind) in fitted
         .fit
@@ -113,18 +121,25 @@ fn terms(out: &mut String, fitted: &Fitted) {
             false => (arcseconds(line.sigma), "free"),
         };
         *out += &format!(
-            "{:<width$}  {:>13}  {sigma:>11}  {:>13}  {state:<5}  {}\n",
+            "{:<width$}  {:>13}  {sigma:>11}  {:>13}  {state:<5}  {:<5}  {}\n",
             line.name,
             arcseconds(line.coefficient),
             arcseconds(term.start),
+            pier_or_both(line.pier_sensitive),
             kind.description()
         );
     }
+    notes(out, fitted);
+}
+
+/// What the columns hold.
+fn notes(out: &mut String, fitted: &Fitted) {
     *out += "Coefficients, sigmas and starts are in arcseconds (\").\n";
     *out += &format!(
         "Sigmas are by stars: the squared residuals' sum is divided by stars less rank, at least 1 (here {}).\n",
         fitted.run.stars.len().saturating_sub(fitted.fit.rank).max(1)
     );
+    *out += SIDES;
 }
 
 fn arcseconds(x: f64) -> String {

@@ -50,6 +50,11 @@ impl Harmonic {
             .fold(1.0, |product, part| product * part.value(sheet))
     }
 
+    /// The published `pier_sensitive()`.
+    pub fn pier_sensitive(&self) -> bool {
+        self.result == 'P'
+    }
+
     /// What the term does, by its parts.
     pub fn description(&self) -> String {
         let parts: Vec<String> = self.components.iter().map(Component::words).collect();

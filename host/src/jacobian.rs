@@ -95,6 +95,13 @@ mod tests {
     use super::*;
     use crate::terms::read;
 
+    /// Every equatorial term, and harmonics of every result.
+    const NAMES: [&str; 25] = [
+        "IH", "ID", "CH", "NP", "MA", "ME", "TF", "TX", "TX3", "DAF", "FO", "HCES", "HCEC", "DCES",
+        "DCEC", "HHSH", "HDCD2", "HXSHCD2", "HPSH", "HPCD9", "HPCA", "HASH", "HECD", "HZSH",
+        "HSCD",
+    ];
+
     fn at(name: &str, h: f64, dec: f64, pier: f64) -> (f64, f64) {
         let sheet = Sheet::of(h, dec);
         let (sin_lat, cos_lat) = 0.6f64.sin_cos();
@@ -118,6 +125,20 @@ mod tests {
         assert_eq!(at("HDCH2", h, dec, 1.0), (0.0, (2.0 * h).cos()));
         assert_eq!(at("HPSH", h, dec, -1.0), (dec.tan() * h.sin(), 0.0));
         assert_eq!(at("HASH", h, dec, -1.0), (0.0, 0.0));
+    }
+
+    /// East and West have opposite pairs of a pier sensitive term, and the same pair of any other.
+    #[test]
+    fn sides() {
+        for name in NAMES {
+            let (east, west) = (at(name, 0.7, 0.4, 1.0), at(name, 0.7, 0.4, -1.0));
+            if read(name).unwrap().1.pier_sensitive() {
+                assert_eq!(east, (-west.0, -west.1), "{name}");
+                assert_ne!(east, west, "{name}");
+            } else {
+                assert_eq!(east, west, "{name}");
+            }
+        }
     }
 
     /// TF lowers the tube by sin zeta, TX by tan zeta: their ratio is -1 over sin of the altitude.

@@ -7,6 +7,8 @@ pub struct TermLine {
     pub name: String,
     pub coefficient: f64,
     pub sigma: f64,
+    /// `pier` at the line's end, not `both`.
+    pub pier_sensitive: bool,
 }
 
 #[derive(Debug, Clone, PartialEq)]
@@ -35,7 +37,10 @@ const OLDER: &str =
     "the listing is of an older fit program, which did not count sweeps: fit the file again";
 /// The most sweeps of a solve.
 const MAX_SWEEPS: usize = 30;
-const TERM: &str = "expected a name and two numbers of 16 hexadecimal digits";
+const TERM: &str = "expected a name, two numbers of 16 hexadecimal digits, and 'pier' or 'both'";
+const OLDER_TERM: &str =
+    "the listing is of an older fit program, which did not tell which terms flip with the mount: fit the file again";
+const SKY: &str = "expected 'sky' and two numbers of 16 hexadecimal digits";
 
 /// Reads a whole listing.
 pub fn read(text: &str) -> Result<Listing, Fault> {
@@ -55,14 +60,10 @@ pub fn read(text: &str) -> Result<Listing, Fault> {
             "the last line is not 'sky' and two numbers: is the listing whole?",
         ))?;
     for (i, words) in terms.iter().enumerate() {
-        let (name, coefficient, sigma) = name_and_two(words).ok_or(Fault::at(i + 2, TERM))?;
-        fit.terms.push(TermLine {
-            name,
-            coefficient,
-            sigma,
-        });
+        let term = term_line(words).map_err(|message| Fault::at(i + 2, message))?;
+        fit.terms.push(term);
     }
-    let (_, sky_rms, popn_sd) = name_and_two(last).ok_or(Fault::at(lines.len(), TERM))?;
+    let (_, sky_rms, popn_sd) = name_and_two(last).ok_or(Fault::at(lines.len(), SKY))?;
     Ok(Listing::Fit(Fit {
         sky_rms,
         popn_sd,
@@ -140,6 +141,34 @@ fn sweeps(fit: &Fit) -> Result<(), String> {
     Ok(())
 }
 
+/// A term's line, or what is wrong with it.
+fn term_line(words: &[&str]) -> Result<TermLine, &'static str> {
+    if name_and_two(words).is_some() {
+        return Err(OLDER_TERM);
+    }
+    let (last, numbers) = words.split_last().ok_or(TERM)?;
+    let (name, coefficient, sigma) = name_and_two(numbers).ok_or(TERM)?;
+    let pier_sensitive = match *last {
+        "pier" => true,
+        "both" => false,
+        _ => return Err(TERM),
+    };
+    Ok(TermLine {
+        name,
+        coefficient,
+        sigma,
+        pier_sensitive,
+    })
+}
+
+/// The word at a term line's end.
+pub fn pier_or_both(pier_sensitive: bool) -> &'static str {
+    match pier_sensitive {
+        true => "pier",
+        false => "both",
+    }
+}
+
 fn name_and_two(words: &[&str]) -> Option<(String, f64, f64)> {
     let [name, first, second] = words else {
         return None;
@@ -162,7 +191,7 @@ fn double(digits: &str) -> Option<f64> {
 mod tests {
     use super::*;
 
-    const GOOD: &str = "fit 1 1 1 yes 1 yes\nID 4024000000000000 0000000000000000\nsky 0000000000000000 0000000000000000\n";
+    const GOOD: &str = "fit 1 1 1 yes 1 yes\nID 4024000000000000 0000000000000000 pier\nsky 0000000000000000 0000000000000000\n";
 
     #[test]
     fn document_01() {
@@ -179,7 +208,8 @@ mod tests {
             [TermLine {
                 name: "ID".into(),
                 coefficient: 10.0,
-                sigma: 0.0
+                sigma: 0.0,
+                pier_sensitive: true
             }]
         );
         assert_eq!(read("no 13\n"), Ok(Listing::Refused(13)));
@@ -210,10 +240,52 @@ mod tests {
         }
         assert!(fault("no 3\nno 3\n").starts_with("line 2: a refusal has one line"));
         assert!(fault("fit 1 1 1 yes 1 yes\n").contains("is the listing whole?"));
-        assert!(fault(&GOOD.replace("ID 4", "ID ")).starts_with("line 2: expected a name"));
-        assert!(fault(&GOOD.replace("4024000000000000", "402400000000000A")).starts_with("line 2"));
-        assert!(fault(&GOOD.replace("sky 0", "sky ")).starts_with("line 3"));
+        assert!(fault(&GOOD.replace("sky 0", "sky ")).starts_with("line 3: expected 'sky'"));
+        for word in [" pier", " both", " "] {
+            let text = format!("{}{word}\n", GOOD.trim_end());
+            assert!(fault(&text).starts_with("line 3: expected 'sky'"), "{word}");
+        }
         assert!(fault(&GOOD[..GOOD.len() - 55]).contains("line 2: the last line"));
+    }
+
+    /// The document's case with another line for its term.
+    fn with_term(line: &str) -> String {
+        GOOD.replace("ID 4024000000000000 0000000000000000 pier", line)
+    }
+
+    #[test]
+    fn pier_and_both() {
+        for (word, sensitive) in [("pier", true), ("both", false)] {
+            let text = with_term(&format!("IH 4024000000000000 0000000000000000 {word}"));
+            let Ok(Listing::Fit(fit)) = read(&text) else {
+                panic!("no fit: {word}");
+            };
+            assert_eq!(fit.terms[0].pier_sensitive, sensitive);
+            assert_eq!(pier_or_both(sensitive), word);
+        }
+    }
+
+    #[test]
+    fn faults_of_terms() {
+        for bad in [
+            "ID",
+            "ID pier",
+            "ID 4024000000000000 pier",
+            "ID 024000000000000 0000000000000000 pier",
+            "ID 402400000000000A 0000000000000000 pier",
+            "4024000000000000 0000000000000000 pier",
+            "ID 4024000000000000 0000000000000000 ",
+            "ID 4024000000000000 0000000000000000 east",
+            "ID 4024000000000000 0000000000000000 Pier",
+            "ID 4024000000000000 0000000000000000  pier",
+            "ID 4024000000000000 0000000000000000 pier ",
+            "ID 4024000000000000 0000000000000000 pier both",
+            "ID 4024000000000000 0000000000000000 0000000000000000 pier",
+            "ID pier 4024000000000000 0000000000000000",
+        ] {
+            let said = read(&with_term(bad)).expect_err(bad).to_string();
+            assert_eq!(said, format!("line 2: {TERM}"), "{bad}");
+        }
     }
 
     #[test]
@@ -249,5 +321,8 @@ mod tests {
             let said = read(&text).expect_err(first).to_string();
             assert_eq!(said, format!("line 1: {OLDER}"));
         }
+        let text = with_term("ID 4024000000000000 0000000000000000");
+        let said = read(&text).expect_err("no word").to_string();
+        assert_eq!(said, format!("line 2: {OLDER_TERM}"));
     }
 }

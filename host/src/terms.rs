@@ -1,4 +1,4 @@
-//! Names of terms as the fit reads them: the kind, the stored name and the description.
+//! Names of terms as the fit reads them: the kind, the stored name, the description and whether the term is pier sensitive.
 
 use crate::harmonic::{self, Harmonic};
 
@@ -78,6 +78,15 @@ impl Kind {
         };
         text.into()
     }
+
+    /// The published `pier_sensitive()`: whether the term's pair turns with the pier side.
+    pub fn pier_sensitive(&self) -> bool {
+        match self {
+            Kind::Id | Kind::Ch | Kind::Np => true,
+            Kind::Harmonic(harmonic) => harmonic.pier_sensitive(),
+            _ => false,
+        }
+    }
 }
 
 #[cfg(test)]
@@ -93,6 +102,23 @@ mod tests {
         assert_eq!(read("HCES"), Some(("HCES".into(), Kind::Hces)));
         for bad in ["", "TX0", "TX256", "TX-1", "TX+", "NPAE", "IA", "HHS", "Q"] {
             assert_eq!(read(bad), None, "{bad}");
+        }
+    }
+
+    /// ID, CH, NP and the harmonics of result P, no others.
+    #[test]
+    fn pier_sensitive() {
+        let sensitive = |name: &str| read(name).expect(name).1.pier_sensitive();
+        for name in [
+            "ID", "CH", "NP", "id", "np", "HPSH", "HPCD9", "hpca", "HPSHCD2",
+        ] {
+            assert!(sensitive(name), "{name}");
+        }
+        for name in [
+            "IH", "MA", "ME", "TF", "TX", "TX1", "TX255", "DAF", "FO", "HCES", "HCEC", "DCES",
+            "DCEC", "ih", "HHSH", "HDCD2", "HXSHCD2", "HASH", "HECD", "HZSZ", "HSCE3",
+        ] {
+            assert!(!sensitive(name), "{name}");
         }
     }
 }

@@ -37,7 +37,9 @@ fn the_night() {
         "Converged       yes, after 2 iterations\n",
         "Solution        settled after 6 sweeps\n",
         "Terms           6 free, 0 fixed; rank 6\n",
-        "IH         -187.11\"        1.73\"          0.00\"  free   Hour angle index error\n",
+        "Term    Coefficient        Sigma          Start  State  Sides  Description\n",
+        "IH         -187.11\"        1.73\"          0.00\"  free   both   Hour angle index error\n",
+        "NP           43.32\"        3.00\"          0.00\"  free   pier   Non-perpendicularity of axes\n",
         "Sigmas are by stars: the squared residuals' sum is divided by stars less rank, at least 1 (here 24).\n",
         "Sky RMS              4.89\"",
         "Population SD        5.46\"",
@@ -69,7 +71,7 @@ fn many_terms() {
     for words in [
         "WARNING: rank 2 is below the 3 free terms: 1 combination of the terms can't be told",
         "Terms           3 free, 13 fixed; rank 2\n",
-        "TX3              1.50\"            -          1.50\"  fixed  Tube flexure (tan^3 zeta)\n",
+        "TX3              1.50\"            -          1.50\"  fixed  both   Tube flexure (tan^3 zeta)\n",
         "ID             224.53\"",
         "Harmonic in hour angle: sin h * cos A with A = 0\n",
     ] {
@@ -81,10 +83,43 @@ fn many_terms() {
 fn document_01() {
     let card = card("document-01");
     assert!(card.contains(
-        "ID           10.00\"        0.00\"          0.00\"  free   Declination index error\n"
+        "ID           10.00\"        0.00\"          0.00\"  free   pier   Declination index error\n"
     ));
     assert!(card.contains("stars less rank, at least 1 (here 1)."));
     assert!(card.contains("Population SD            -  not known: no more stars than free terms"));
+}
+
+/// The terms of a card that its column of sides has a word for.
+fn marked(card: &str, word: &str) -> Vec<String> {
+    let marked = |line: &str| {
+        let words: Vec<&str> = line.split_whitespace().collect();
+        (words.len() > 6 && words[5] == word).then(|| words[0].to_string())
+    };
+    card.lines().filter_map(marked).collect()
+}
+
+/// ID, CH, NP and harmonics of result P flip with the mount.
+#[test]
+fn terms_that_flip() {
+    for name in ["night", "night-indat", "wrong-piers", "one-place"] {
+        let card = card(name);
+        assert_eq!(marked(&card, "pier"), ["ID", "CH", "NP"], "{card}");
+        assert_eq!(marked(&card, "both"), ["IH", "MA", "ME"], "{card}");
+    }
+    let card = card("many-terms");
+    assert_eq!(marked(&card, "pier"), ["ID", "HPCH3"], "{card}");
+    let both = [
+        "IH", "HASH", "TF", "TX", "TX3", "DAF", "FO", "HCES", "HCEC", "DCES", "DCEC", "HXSHCD2",
+        "HDSD9", "HHSHCA",
+    ];
+    assert_eq!(marked(&card, "both"), both, "{card}");
+    for words in [
+        "Sides: a term marked 'pier' flips with the mount: what it adds changes its sign when the tube changes\n",
+        "sides of the pier (unknown counts as East). A term marked 'both' adds the same on both sides.\n",
+        "Stars on one side alone can't show which errors flip: observe on both.\n",
+    ] {
+        assert!(card.contains(words), "{words}\n{card}");
+    }
 }
 
 #[test]
@@ -256,6 +291,60 @@ fn listings_of_other_files() {
         &fixed,
         "line 5: TF was fixed at 12.5",
     );
+}
+
+/// The listing of an example with another end of a term's line, behind its sigma.
+fn with_end(name: &str, term: &str, end: &str) -> String {
+    let listing = text(&format!("{name}.listing"));
+    let changed = |line: &str| {
+        let words: Vec<&str> = line.split(' ').collect();
+        match words[0] == term {
+            true => format!("{}{end}\n", words[..3].join(" ")),
+            false => format!("{line}\n"),
+        }
+    };
+    listing.lines().map(changed).collect()
+}
+
+#[test]
+fn words_that_are_not_their_terms() {
+    for (name, line, term, right, wrong) in [
+        ("night", 2, "IH", "both", "pier"),
+        ("night", 3, "ID", "pier", "both"),
+        ("night", 7, "ME", "both", "pier"),
+        ("many-terms", 14, "HXSHCD2", "both", "pier"),
+        ("many-terms", 15, "HPCH3", "pier", "both"),
+    ] {
+        assert_bad(
+            &path(&format!("{name}.pmf")),
+            &with_end(name, term, &format!(" {wrong}")),
+            &format!("line {line}: the listing says '{wrong}' of {term}: expected '{right}'"),
+        );
+    }
+}
+
+#[test]
+fn term_lines_without_a_good_word() {
+    let pmf = path("night.pmf");
+    assert_bad(
+        &pmf,
+        &with_end("night", "NP", ""),
+        "line 5: the listing is of an older fit program, which did not tell which terms flip with the mount: fit the file again",
+    );
+    for end in [" ", " east", " pier ", " pier pier"] {
+        assert_bad(
+            &pmf,
+            &with_end("night", "NP", end),
+            "line 5: expected a name, two numbers of 16 hexadecimal digits, and 'pier' or 'both'",
+        );
+    }
+    for end in [" both", " pier"] {
+        assert_bad(
+            &pmf,
+            &with_end("night", "sky", end),
+            "line 8: expected 'sky' and two numbers",
+        );
+    }
 }
 
 #[test]

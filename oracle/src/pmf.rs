@@ -4,6 +4,7 @@ use crate::error::Result;
 use crate::questions::{fit_file, Run, BY_STARS};
 use crate::sheet::SHEET;
 use crate::solver::{FitResult, IterOptions};
+use crate::terms::create_term;
 
 const HEADER: usize = 9;
 const MAX_TERMS: usize = 16;
@@ -117,6 +118,7 @@ pub fn listing(input: &[u8]) -> String {
         Err(number) => return format!("no {number}\n"),
     };
     let word = |yes: bool| if yes { "yes" } else { "no" };
+    let side = |sensitive: bool| if sensitive { "pier" } else { "both" };
     let mut out = format!(
         "fit {} {} {} {} {} {}\n",
         fit.rank_info.n_free,
@@ -127,10 +129,12 @@ pub fn listing(input: &[u8]) -> String {
         word(fit.settled),
     );
     for (j, name) in fit.term_names.iter().enumerate() {
+        let term = create_term(name).expect("a stored name");
         out += &format!(
-            "{name} {:016x} {:016x}\n",
+            "{name} {:016x} {:016x} {}\n",
             bits(fit.coefficients[j]),
-            bits(fit.sigma[j])
+            bits(fit.sigma[j]),
+            side(term.pier_sensitive()),
         );
     }
     out += &format!(

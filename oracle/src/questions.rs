@@ -314,12 +314,14 @@ pub fn fit_file(run: &Run, options: &IterOptions, iterated: bool) -> Result<FitR
     run.fit(iterated.then_some(options))
 }
 
-/// A model as a value that anyone can make: stored names and coefficients in 32 places.
+/// A model as a value that anyone can make: in 32 places stored names, coefficients, and whether
+/// terms are pier sensitive.
 #[derive(Debug, Clone)]
 pub struct Model {
     pub count: usize,
     pub names: [[u8; NAME]; MAX_TERMS],
     pub coefficients: [f64; MAX_TERMS],
+    pub pier_sensitive: [bool; MAX_TERMS],
 }
 
 impl Default for Model {
@@ -328,6 +330,7 @@ impl Default for Model {
             count: 0,
             names: [[0; NAME]; MAX_TERMS],
             coefficients: [0.0; MAX_TERMS],
+            pier_sensitive: [false; MAX_TERMS],
         }
     }
 }
@@ -340,6 +343,13 @@ impl Model {
             names: self.names[..self.count].as_flattened(),
             coefficients: &self.coefficients[..self.count],
         })
+    }
+
+    /// Keeps of each term whether it is pier sensitive, as the source has it.
+    fn flag(&mut self, source: &PointingModel) {
+        for (flag, term) in self.pier_sensitive.iter_mut().zip(source.terms()) {
+            *flag = term.pier_sensitive();
+        }
     }
 }
 
@@ -357,6 +367,7 @@ pub fn add_term(model: &Model, slot: &[u8]) -> Result<Model> {
         out.coefficients[model.count] = source.coefficients()[model.count];
         out.count = source.term_count();
     }
+    out.flag(&source);
     Ok(out)
 }
 
@@ -370,6 +381,7 @@ pub fn set_coefficients(model: &Model, coeffs: &[f64]) -> Result<Model> {
     source.set_coefficients(coeffs)?;
     let mut out = model.clone();
     out.coefficients[..model.count].copy_from_slice(source.coefficients());
+    out.flag(&source);
     Ok(out)
 }
 
@@ -378,8 +390,8 @@ pub fn apply_equatorial(model: &Model, point: &Point) -> Result<(f64, f64)> {
     apply_equatorial_lent(&model.terms()?, point)
 }
 
-/// Two contributions per term at one point.
-pub fn predict_breakdown(model: &Model, point: &Point) -> Result<Vec<(f64, f64)>> {
+/// Two contributions per term at one point, and whether the term is pier sensitive.
+pub fn predict_breakdown(model: &Model, point: &Point) -> Result<Vec<(f64, f64, bool)>> {
     predict_breakdown_lent(&model.terms()?, point)
 }
 
@@ -418,12 +430,15 @@ pub fn apply_equatorial_lent(model: &LentModel, point: &Point) -> Result<(f64, f
     Ok(read.apply_equatorial(&sheet, lat, pier))
 }
 
-/// Two contributions per term of a lent model at one point.
-pub fn predict_breakdown_lent(model: &LentModel, point: &Point) -> Result<Vec<(f64, f64)>> {
+/// The same of a lent model.
+pub fn predict_breakdown_lent(model: &LentModel, point: &Point) -> Result<Vec<(f64, f64, bool)>> {
     let read = model.read(point)?;
     let (sheet, lat, pier) = point.lent();
     let breakdown = read.predict_breakdown(&sheet, lat, pier);
-    Ok(breakdown.into_iter().map(|(_, h, d)| (h, d)).collect())
+    let terms = read.terms().iter().zip(breakdown);
+    Ok(terms
+        .map(|(term, (_, h, d))| (h, d, term.pier_sensitive()))
+        .collect())
 }
 
 /// The numbers of scratch that a fit of m terms and n stars asks: question 1.

@@ -64,6 +64,17 @@ fn names() {
         assert_eq!(read(name), Err(10), "{name}");
     }
     assert_eq!(read("HXSHCD2"), Ok("HXSHCD2".into()));
+    for (name, pier_sensitive) in [
+        ("ID", true),
+        ("CH", true),
+        ("NP", true),
+        ("HPSH", true),
+        ("MA", false),
+        ("HHSH", false),
+    ] {
+        let term = read_term(&slot(name)).unwrap();
+        assert_eq!(term.pier_sensitive(), pier_sensitive, "{name}");
+    }
     for name in ["TX+", "TX-0", "TX ", "\u{1}", "\u{7f}"] {
         assert_eq!(read(name), Err(9), "{name}");
     }
@@ -104,7 +115,7 @@ fn file_program() {
     assert_eq!(input.len(), file_size(1, 1));
     assert_eq!(
         listing(&input),
-        "fit 1 1 1 yes 1 yes\nID 4024000000000000 0000000000000000\nsky 0000000000000000 0000000000000000\n"
+        "fit 1 1 1 yes 1 yes\nID 4024000000000000 0000000000000000 pier\nsky 0000000000000000 0000000000000000\n"
     );
     assert_eq!(listing(&input[..8]), "no 15\n");
     assert_eq!(listing(&input[..input.len() - 1]), "no 15\n");
@@ -300,7 +311,7 @@ fn models() {
     assert_eq!(apply_equatorial(&model, &point), Ok((0.0, -3.0)));
     assert_eq!(
         predict_breakdown(&model, &point).map(|b| b[0]),
-        Ok((0.0, -3.0))
+        Ok((0.0, -3.0, true))
     );
     for n in 10..40 {
         model = add_term(&model, &slot(&format!("TX{n}"))).unwrap();

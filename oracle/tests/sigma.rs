@@ -59,7 +59,7 @@ fn four_stars_by_hand() {
             // a file means by stars
             let listing = listing(&file(&run, &case.options, mode));
             let line = listing.lines().nth(1).expect("a line for ID");
-            assert!(line.ends_with(&format!("{:016x}", by_stars.to_bits())));
+            assert!(line.ends_with(&format!(" {:016x} pier", by_stars.to_bits())));
         });
     }
 }

@@ -38,11 +38,12 @@ use Rattle.outcome.specs.Outcome.{Outcome}
 use Rattle.single_step.specs.SingleStep.{fitOutcome}
 use Rattle.iterated.specs.Iterated.{iteratedOutcome}
 
--- an answer of a public call: of a fit the coefficients and the rank, or the coefficients, the sky RMS and each star's leverage, or sigma's divisor and
--- the sigmas, or the coefficients, the iterations, whether it converged, and the step norm; with the first and the last also the sweeps, and whether they
--- settled
+-- an answer of a public call: a reading, or whether its term is pier sensitive; of a fit the coefficients and the rank, or the coefficients, the sky RMS
+-- and each star's leverage, or sigma's divisor and the sigmas, or the coefficients, the iterations, whether it converged, and the step norm; with the
+-- first and the last of these also the sweeps, and whether they settled
 pub data Answer : Type 0 where
   reading : Reading → Answer
+  sensitive : Bool → Answer
   jacobian : Jacobian → Answer
   refusal : ℕ → Answer
   ranked : List Float → ℕ → ℕ → Bool → Answer
@@ -62,6 +63,10 @@ slotOf s = padded (ascii s)
 -- the name s in its slot is read as r
 abbrev pub reads : String → Reading → Case
 reads s r = record { got = reading (readTerm (slotOf s)); wanted = reading r }
+
+-- the term of the name s is pier sensitive, or not
+abbrev pub turns : String → Bool → Case
+turns s b = record { got = sensitive (readTerm (slotOf s) .term .«pier_sensitive»); wanted = sensitive b }
 
 abbrev component : TrigFunc → Coordinate → ℕ → HarmonicComponent
 component f c k = record { func = f; coord = c; frequency = k }
@@ -206,6 +211,12 @@ starredCases =
     reads "HHSH12" (refused 10) ∷
     hasJacobian "CH" half west (pairOf #2 #0) ∷
     hasJacobian "IH" #1 east (pairOf (neg #1) #0) ∷
+    turns "ID" true ∷
+    turns "CH" true ∷
+    turns "NP" true ∷
+    turns "HPSH" true ∷
+    turns "MA" false ∷
+    turns "HHSH" false ∷
     fileCase ∷
     fileCaseIterated ∷
     reads "HXSHCD2"

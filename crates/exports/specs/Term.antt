@@ -1,6 +1,6 @@
 -- What a name is read as, in numbers, as a C struct. Definitions only.
 use Prim.Native.Nat.{ℕ}
-use mathlib.Core.Bool.{cond}
+use mathlib.Core.Bool.{false, cond}
 use mathlib.Core.List.{List, map}
 use lib.Dec.{eqb}
 use lib.ListN.{replicate}
@@ -76,9 +76,10 @@ readAnswer t =
       functions = codes .functions;
       coordinates = codes .coordinates;
       frequencies = codes .frequencies;
+      «pier_sensitive» = t .«pier_sensitive»;
     }
 
--- the number of the question that refused the name, none of which is 0, and zeros
+-- the number of the question that refused the name, none of which is 0, zeros and false
 abbrev pub noTerm : ℕ → TermAnswer
 noTerm k = record {
   refusal = k;
@@ -90,6 +91,7 @@ noTerm k = record {
   functions = replicate 7 0;
   coordinates = replicate 7 0;
   frequencies = replicate 7 0;
+  «pier_sensitive» = false;
 }
 
 unfoldable pub termAnswer : Reading → TermAnswer

@@ -112,7 +112,7 @@ pub extern "C" fn pointing_apply_equatorial(
     correction_answer(correction_at(names, coefficients, sheet, sin_lat, cos_lat, pier))
 }
 
-// What each term contributes to the correction at one point.
+// What each term contributes to the correction at one point, and whether it is pier sensitive.
 #[no_mangle]
 pub extern "C" fn pointing_predict_breakdown(
     names: &[u8],

@@ -12,7 +12,7 @@ use limits::SLOT;
 use terms::Reading;
 use terms::TermKind;
 
-// 0 and a term in numbers, or the number of the question that refused the name and zeros.
+// 0 and a term in numbers, or the number of the question that refused the name, zeros and false.
 #[repr(C)]
 pub struct TermAnswer {
     pub refusal: u8,
@@ -28,6 +28,7 @@ pub struct TermAnswer {
     pub functions: [u8; 7],
     pub coordinates: [u8; 7],
     pub frequencies: [u8; 7],
+    pub pier_sensitive: bool,
 }
 
 pub struct ComponentCodes {
@@ -133,6 +134,7 @@ fn no_term(k: u8) -> TermAnswer
         functions: [0u8; 7],
         coordinates: [0u8; 7],
         frequencies: [0u8; 7],
+        pier_sensitive: false,
     }
 }
 
@@ -162,5 +164,6 @@ pub fn term_answer(r: Reading) -> TermAnswer
         functions: functions,
         coordinates: coordinates,
         frequencies: frequencies,
+        pier_sensitive: term.pier_sensitive,
     }
 }

@@ -3,3 +3,4 @@ pub mod Steps
 pub mod Reading
 pub mod Product
 pub mod Whole
+pub mod Ones

@@ -8,12 +8,12 @@ ghost use lib.ListN.{length};
 ghost use Rattle.limits.specs.Limits.{slotBytes};
 ghost use Rattle.terms.specs.Names.{nameOf};
 ghost use Rattle.listing.specs.Text.{digit, decimal, spaced, flag, hexadecimal, bitsOf, Wrote};
-ghost use Rattle.listing.specs.Listing.{countsLine, floats, termLine, termLines, fitText, refusalText, listingRoom};
+ghost use Rattle.listing.specs.Listing.{countsLine, floats, pierWord, termLine, termLines, fitText, refusalText, listingRoom};
 use limits::SLOT;
 use solver::FitResult;
 
 // Room for any listing of 16 terms.
-pub const LISTING: usize = 950;
+pub const LISTING: usize = 1030;
 
 fn put_byte(out: &mut [u8], at: usize, b: u8) -> usize
     requires { ⌜ at + 1 ≤ length (now out) ⌝ }
@@ -88,17 +88,16 @@ fn put_bits(out: &mut [u8], at: usize, x: f64) -> usize
     put_bytes(out, at, &text)
 }
 
-// Two floats behind a name, to the end of the line.
+// Two floats behind a name.
 fn put_floats(out: &mut [u8], at: usize, x: f64, y: f64) -> usize
-    requires { ⌜ at + 35 ≤ length (now out) ⌝ }
+    requires { ⌜ at + 34 ≤ length (now out) ⌝ }
     ensures wrote { λ r. ⌜ Wrote (floats x y) at (now (out .entry)) (now (out .exit)) r ⌝ }
-    ensures end { λ r. ⌜ r ≡ at + 35 ⌝ }
+    ensures end { λ r. ⌜ r ≡ at + 34 ⌝ }
 {
     let a = put_byte(out, at, b' ');
     let b = put_bits(out, a, x);
     let c = put_byte(out, b, b' ');
-    let d = put_bits(out, c, y);
-    put_byte(out, d, b'\n')
+    put_bits(out, c, y)
 }
 
 // A space and a number.
@@ -141,17 +140,31 @@ fn put_counts(out: &mut [u8], at: usize, r: FitResult) -> usize
     put_byte(out, g, b'\n')
 }
 
-// The stored name of a slot's term, its coefficient and its sigma.
+// A space and pier or both.
+fn put_pier(out: &mut [u8], at: usize, sensitive: bool) -> usize
+    requires { ⌜ at + 5 ≤ length (now out) ⌝ }
+    ensures wrote { λ r. ⌜ Wrote (pierWord sensitive) at (now (out .entry)) (now (out .exit)) r ⌝ }
+    ensures end { λ r. ⌜ r ≡ at + 5 ⌝ }
+{
+    if sensitive {
+        return put_bytes(out, at, b" pier");
+    }
+    put_bytes(out, at, b" both")
+}
+
+// The stored name of a slot's term, its coefficient, its sigma and pier or both.
 fn put_term(out: &mut [u8], at: usize, slot: &[u8], coefficient: f64, sigma: f64) -> usize
-    requires { ⌜ at + 51 ≤ length (now out) ⌝ }
+    requires { ⌜ at + 56 ≤ length (now out) ⌝ }
     ensures wrote { λ r. ⌜ Wrote (termLine (now (slot .entry)) coefficient sigma) at (now (out .entry)) (now (out .exit)) r ⌝ }
-    ensures bound { λ r. ⌜ r ≤ at + 51 ⌝ }
+    ensures bound { λ r. ⌜ r ≤ at + 56 ⌝ }
 {
     let reading = terms::read_term(slot);
     let term = reading.term;
     let name = term.name;
     let a = put_name(out, at, name);
-    put_floats(out, a, coefficient, sigma)
+    let b = put_floats(out, a, coefficient, sigma);
+    let c = put_pier(out, b, term.pier_sensitive);
+    put_byte(out, c, b'\n')
 }
 
 fn put_terms(
@@ -162,10 +175,10 @@ fn put_terms(
     coefficients: &[f64],
     sigma: &[f64],
 ) -> usize
-    requires { ⌜ (at + 51 * m ≤ length (now out)) × (slotBytes * m ≤ length (now names)) × (m ≤ length (now coefficients)) × (m ≤ length (now sigma)) ⌝ }
+    requires { ⌜ (at + 56 * m ≤ length (now out)) × (slotBytes * m ≤ length (now names)) × (m ≤ length (now coefficients)) × (m ≤ length (now sigma)) ⌝ }
     ensures wrote { λ r. ⌜ Wrote (termLines (now (names .entry)) m (now (coefficients .entry)) (now (sigma .entry))) at
         (now (out .entry)) (now (out .exit)) r ⌝ }
-    ensures bound { λ r. ⌜ r ≤ at + 51 * m ⌝ }
+    ensures bound { λ r. ⌜ r ≤ at + 56 * m ⌝ }
 {
     let mut next = at;
     for j in 0..m {
@@ -191,7 +204,8 @@ pub fn put_fit(
     let a = put_counts(out, 0, r);
     let b = put_terms(out, a, names, m, coefficients, sigma);
     let c = put_bytes(out, b, b"sky");
-    put_floats(out, c, r.sky_rms, r.popn_sd)
+    let d = put_floats(out, c, r.sky_rms, r.popn_sd);
+    put_byte(out, d, b'\n')
 }
 
 // The listing of a refusal.

@@ -1,6 +1,7 @@
--- What a reader may count on: the models that the calls make pass every question, a breakdown sums to the correction, a correction uses the
--- coefficients that were set, and a term that is added twice, however it is spelled, is added once. Assumes nothing.
-use Prim.Native.Nat.{ℕ, _+_, _*_, _<_}
+-- What a reader may count on: the models that the calls make pass every question and have their names' flags, a breakdown sums to the correction and
+-- shows those flags, a correction uses the coefficients that were set, and a term that is added twice, however it is spelled, is added once.
+-- Assumes nothing.
+use Prim.Native.Nat.{ℕ, _+_, _*_, _≤_, _<_}
 use native.Mathlib.Numerals.{add-one}
 use native.Mathlib.Omega.{arith}
 use mathlib.Core.Path.{_≡_, refl, sym, _∙_, ap, ap₂}
@@ -8,7 +9,7 @@ use mathlib.Core.Bool.{Bool, true, false, cond, _||_}
 use mathlib.Core.List.{List, [], _∷_}
 use borrow.Author.Tests.{eqb-true, eqb-false, eq-eqb, ltb-true}
 use lib.Dec.{eqb, ltb}
-use lib.ListN.{length, take}
+use lib.ListN.{length, getD, take}
 use lib.Seq.{take-all, take-suc-set, length-take-le, length-sets}
 use lib.Ieee.{Float}
 use Rattle.float.specs.Float.{#0, isFinite}
@@ -17,14 +18,15 @@ use Rattle.observation.specs.Observation.{pairOf}
 use Rattle.float.proofs.Zero.{zero-finite}
 use Rattle.sequence.proofs.Tests.{every-snoc}
 use Rattle.sequence.proofs.Parts.{part-take, part-sets-same, part-sets-below}
-use Rattle.sequence.proofs.Fills.{at-filled, take-filled, table-front}
+use Rattle.sequence.proofs.Fills.{filled-at, at-filled, take-filled, table-front, filled-again, filled-own}
 use Rattle.sequence.proofs.Sums.{sum-same}
 use Rattle.terms.specs.Names.{same, readTerm}
 use Rattle.terms.specs.Questions.{firstNo}
 use Rattle.terms.specs.Slots.{slot, firstOf, namesRefusal}
 use Rattle.terms.proofs.First.{first-step, first-same}
-use Rattle.model.specs.Slots.{noNumbers, hasName}
-use Rattle.model.specs.Model.{newModel, ownNumber, refusalOf, termNames, termCoefficients, modelRefusal, changed, withTerm, addTerm, setCoefficients}
+use Rattle.model.specs.Slots.{noNumbers, noFlags, hasName, pierAt}
+use Rattle.model.specs.Model.{newModel, ownNumber, refusalOf, termNames, termCoefficients, modelRefusal, changed, withTerm, withCoefficients}
+use Rattle.model.specs.Model.{flagged, addTerm, setCoefficients, FlagsAreNames}
 use Rattle.model.specs.Correction.{pointRefusal, corrected, correctionAt, correction, noBreakdown, brokenDown, breakdownAt}
 use Rattle.model.specs.declared.PointingModel.{PointingModel}
 use Rattle.model.specs.declared.Breakdown.{Breakdown}
@@ -58,7 +60,24 @@ also : (m : PointingModel) (a b c d : Bool) → PassedWith m a b → c ≡ true 
 also m a b c d p e f =
     record { few = p .few; sized = p .sized; rest-counted = e; numbers = p .numbers; rest-finite = f; rest-known = refl; named = p .named }
 
--- ---- the sum of the breakdown, in order, is the correction
+-- ---- the flags of a model
+
+pub new-flags : FlagsAreNames newModel
+new-flags i h = absurd (omega arith)
+
+flagged-flags : (m : PointingModel) → FlagsAreNames (flagged m)
+flagged-flags m i h = filled-at (pierAt (m .names)) (m .count) i (m .«pier_sensitive») false h
+
+abbrev withFlags : PointingModel → List Bool → PointingModel
+withFlags m l = record { names = m .names; coefficients = m .coefficients; «pier_sensitive» = l; count = m .count }
+
+flagged-again : (m : PointingModel) → flagged (flagged m) ≡ flagged m
+flagged-again m = ap (withFlags m) (filled-again (pierAt (m .names)) (m .count) (m .«pier_sensitive»))
+
+flagged-equal : (m : PointingModel) → m .count ≤ length (m .«pier_sensitive») → FlagsAreNames m → flagged m ≡ m
+flagged-equal m h e = ap (withFlags m) (filled-own (pierAt (m .names)) (m .«pier_sensitive») false (m .count) h e)
+
+-- ---- the sum of the breakdown, in order, is the correction, and its flags are those of the names
 
 given-yes : (x : ℕ) (b : Breakdown) → firstNo noBreakdown b (ownNumber x ∷ []) .refusal ≡ 0 → x ≡ 0
 given-yes x b e = by (eqb x 0) refl e
@@ -79,11 +98,16 @@ module _ (n : ℕ) (names : List ℕ) (coefficients sheet : List Float) (sinLat 
       (ap₂ (λ (x y : Float). Given (pairOf x y)) (sum-same n _ _ (λ i h. sym (at-filled _ n i noNumbers h)))
       (sum-same n _ _ (λ i h. sym (at-filled _ n i noNumbers h))))
 
+  pub breakdown-flags : parts .refusal ≡ 0 → (i : ℕ) → i < n → getD (parts .«pier_sensitive») i false ≡ pierAt names i
+  unfolding breakdownAt brokenDown
+  breakdown-flags e i h =
+      rw (eq-eqb _ 0 (given-yes (pointRefusal n names coefficients sheet sinLat cosLat pier) _ e)) (filled-at (pierAt names) n i noFlags false h)
+
 -- ---- a correction after an accepted setting uses the new coefficients
 
 module _ (m : PointingModel) (cs : List Float) (accepted : setCoefficients m cs .refusal ≡ 0) where
   new-model : PointingModel
-  new-model = record { names = m .names; coefficients = filled (m .count) (at cs) (m .coefficients); count = m .count }
+  new-model = flagged (withCoefficients m cs)
 
   abbrev set-no : ℕ
   set-no = modelRefusal m (eqb (length cs) (m .count)) (every isFinite cs) true
@@ -124,6 +148,10 @@ module _ (m : PointingModel) (cs : List Float) (accepted : setCoefficients m cs 
         named = p .named;
       }))
 
+  pub set-flags : FlagsAreNames (setCoefficients m cs .model)
+  unfolding new-model
+  set-flags = rw set-is (flagged-flags (withCoefficients m cs))
+
   pub applied-after-set : (sheet : List Float) (sinLat cosLat : Float) (pier : ℕ)
       → correction (setCoefficients m cs .model) sheet sinLat cosLat pier ≡ correctionAt (m .count) (termNames m) cs sheet sinLat cosLat pier
   unfolding new-model
@@ -133,18 +161,23 @@ module _ (m : PointingModel) (cs : List Float) (accepted : setCoefficients m cs 
 
 -- ---- a term that is added twice is added once
 
--- a model that passes and has the term is handed back
+-- a model that passes and has the term is handed back with its names' flags
 again : (m : PointingModel) (name : List ℕ) → modelRefusal m (eqb (length name) 16) true true ≡ 0 → readTerm name .refusal ≡ 0
-    → hasName (m .names) (m .count) (readTerm name .term .name) ≡ true → addTerm m name ≡ changed 0 m
+    → hasName (m .names) (m .count) (readTerm name .term .name) ≡ true → addTerm m name ≡ changed 0 (flagged m)
 unfolding addTerm
 again m name p r h = rw (eq-eqb _ 0 p, eq-eqb (readTerm name .refusal) 0 r, h)
 
--- so a name of a term that is there changes nothing, however either is spelled, and also where the model is full
-pub there-already : (m : PointingModel) (name : List ℕ) (i : ℕ) → Passes m → length name ≡ 16 → readTerm name .refusal ≡ 0 → i < m .count
-    → readTerm (slot (m .names) i) .term .name ≡ readTerm name .term .name → addTerm m name ≡ changed 0 m
-there-already m name i p l r h e =
-    again m name (passes-with m _ true (also m true true _ true (passed-with m true true p) (eq-eqb (length name) 16 l) refl)) r
-    (sym (some-stop _ i (m .count) h (ap (λ (l : List ℕ). same l (readTerm name .term .name)) e ∙ same-itself (readTerm name .term .name))))
+-- so a name of a term that is there changes nothing else, however either is spelled, and also where the model is full
+module _ (m : PointingModel) (name : List ℕ) (i : ℕ) (p : Passes m) (l : length name ≡ 16) (r : readTerm name .refusal ≡ 0) (h : i < m .count)
+    (e : readTerm (slot (m .names) i) .term .name ≡ readTerm name .term .name) where
+  pub there-already : addTerm m name ≡ changed 0 (flagged m)
+  there-already =
+      again m name (passes-with m _ true (also m true true _ true (passed-with m true true p) (eq-eqb (length name) 16 l) refl)) r
+      (sym (some-stop _ i (m .count) h (ap (λ (l : List ℕ). same l (readTerm name .term .name)) e ∙ same-itself (readTerm name .term .name))))
+
+  -- and nothing at all where the model has its names' flags
+  pub there-equal : length (m .«pier_sensitive») ≡ 32 → FlagsAreNames m → addTerm m name ≡ changed 0 m
+  there-equal long f = there-already ∙ ap (changed 0) (flagged-equal m (omega (arith, long, passed-with m true true p .few)) f)
 
 -- the lengths are those of the arrays
 module _ (m : PointingModel) (name : List ℕ) (bytes : length (m .names) ≡ 512) (numbers : length (m .coefficients) ≡ 32)
@@ -173,7 +206,7 @@ module _ (m : PointingModel) (name : List ℕ) (bytes : length (m .names) ≡ 51
   before : PassedWith m (eqb (length name) 16) true
   before = passed-with m _ true (add-facts .0)
 
-  add-is : addTerm m name ≡ changed 0 (cond there m (withTerm m stored))
+  add-is : addTerm m name ≡ changed 0 (flagged (cond there m (withTerm m stored)))
   unfolding addTerm
   add-is = rw (eq-eqb add-no 0 (add-facts .0), eq-eqb (readTerm name .refusal) 0 (add-facts .1), add-facts .2)
 
@@ -231,7 +264,7 @@ module _ (m : PointingModel) (name : List ℕ) (bytes : length (m .names) ≡ 51
   abbrev Has : PointingModel → Type 0
   Has x = PassedWith x true true × (hasName (x .names) (x .count) stored ≡ true)
 
-  passes-and-has : (t : Bool) → there ≡ t → Has (cond t m (withTerm m stored))
+  passes-and-has : (t : Bool) → there ≡ t → Has (flagged (cond t m (withTerm m stored)))
   passes-and-has true e = (also m _ true true true before refl refl, e)
   passes-and-has false e = (longer-passes e, longer-has e)
 
@@ -239,15 +272,21 @@ module _ (m : PointingModel) (name : List ℕ) (bytes : length (m .names) ≡ 51
   known = rw add-is (passes-and-has there refl)
 
   pub added-passes : Passes (addTerm m name .model)
-  added-passes = passes-with _ true true (known .0)
+  added-passes = passes-with (addTerm m name .model) true true (known .0)
+
+  pub added-flags : FlagsAreNames (addTerm m name .model)
+  added-flags = rw add-is (flagged-flags (cond there m (withTerm m stored)))
+
+  flagged-already : flagged (addTerm m name .model) ≡ addTerm m name .model
+  flagged-already = rw add-is (flagged-again (cond there m (withTerm m stored)))
 
   -- nor does any spelling of the same term
   pub added-again : (other : List ℕ) → length other ≡ 16 → readTerm other ≡ readTerm name
       → addTerm (addTerm m name .model) other ≡ changed 0 (addTerm m name .model)
   added-again other l e =
       again (addTerm m name .model) other
-      (passes-with _ _ true (also (addTerm m name .model) true true _ true (known .0) (eq-eqb (length other) 16 l) refl))
-      (ap (λ r. r .refusal) e ∙ add-facts .1) (rw e (known .1))
+      (passes-with (addTerm m name .model) _ true (also (addTerm m name .model) true true _ true (known .0) (eq-eqb (length other) 16 l) refl))
+      (ap (λ r. r .refusal) e ∙ add-facts .1) (rw e (known .1)) ∙ ap (changed 0) flagged-already
 
   pub added-twice : addTerm (addTerm m name .model) name ≡ changed 0 (addTerm m name .model)
   added-twice = added-again name (eqb-true _ 16 (before .rest-counted)) refl

@@ -1,4 +1,4 @@
-// The names and coefficients of a model, slot by slot.
+// The names, coefficients and flags of a model, slot by slot.
 
 ghost use mathlib.Core.Path.{_≡_};
 ghost use Prim.Native.Nat.{_+_, _*_, _≤_, _<_};
@@ -7,7 +7,7 @@ ghost use lib.Seq.{sets};
 ghost use Rattle.limits.specs.Limits.{maxTerms, slotBytes};
 ghost use Rattle.sequence.specs.Sequence.{at, filled};
 ghost use Rattle.terms.specs.Names.{same};
-ghost use Rattle.model.specs.Slots.{noNames, noNumbers, hasName};
+ghost use Rattle.model.specs.Slots.{noNames, noNumbers, noFlags, hasName, pierAt};
 use limits::MAX_TERMS;
 use limits::SLOT;
 
@@ -21,6 +21,12 @@ pub fn no_numbers() -> [f64; MAX_TERMS]
     ensures { λ r. ⌜ r ≡ noNumbers ⌝ }
 {
     [0.0; MAX_TERMS]
+}
+
+pub fn no_flags() -> [bool; MAX_TERMS]
+    ensures { λ r. ⌜ r ≡ noFlags ⌝ }
+{
+    [false; MAX_TERMS]
 }
 
 // Whether two texts of one length are the same.
@@ -72,6 +78,20 @@ pub fn with_coefficients(mut all: [f64; MAX_TERMS], first: &[f64]) -> [f64; MAX_
 {
     for i in 0..first.len() {
         all[i] = first[i];
+    }
+    all
+}
+
+// The flags with those of the first count slots' terms in their first places.
+pub fn with_flags(mut all: [bool; MAX_TERMS], names: &[u8], count: usize) -> [bool; MAX_TERMS]
+    requires { ⌜ (slotBytes * count ≤ length (now names)) × (count ≤ maxTerms) ⌝ }
+    ensures { λ r. ⌜ r ≡ filled count (pierAt (now (names .entry))) all ⌝ }
+{
+    for i in 0..count {
+        let a = SLOT * i;
+        let reading = terms::read_term(&names[a..a + SLOT]);
+        let term = reading.term;
+        all[i] = term.pier_sensitive;
     }
     all
 }

@@ -65,7 +65,7 @@ file =
     ++ padded (ascii "ID") ++ (0 ∷ []) ++ #0
     ++ (1 ∷ []) ++ #0 ++ #-10 ++ sheet
 
-pub example : Pmf.listed file ≡ ascii "fit 1 1 1 yes 1 yes" ++ Text.newline ++ ascii "ID 4024000000000000 0000000000000000" ++ Text.newline ++ ascii "sky 0000000000000000 0000000000000000" ++ Text.newline
+pub example : Pmf.listed file ≡ ascii "fit 1 1 1 yes 1 yes" ++ Text.newline ++ ascii "ID 4024000000000000 0000000000000000 pier" ++ Text.newline ++ ascii "sky 0000000000000000 0000000000000000" ++ Text.newline
 unfolding nameOf wellFormed digitsFrom unsigned components parseHarmonic readHarmonic byKnown readTerm jacobianOf pointOf isFinite abs neg add sub mul div lt le
     eq ofBits ofInt Root.sqrt table filled each sumTo sumBut dot zipWith asked inLimits counts scratchNeeded enoughRoom finiteInput finiteOptions codesKnown firstOf
     Step.step Step.toFit Step.change Step.newCoefficients Step.freeResiduals Out.sigmaOf Out.diagnosticOf Design.rows pairs column skyColumn

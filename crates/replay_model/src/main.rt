@@ -13,7 +13,9 @@ struct Tally {
     calls: u64,
     models: u64,
     added: u64,
-    equal: u64,
+    there: u64,
+    // accepted calls that were given a flag which is not its name's
+    mended: u64,
     refused: [u64; 16],
     different: u64,
 }
@@ -70,6 +72,21 @@ fn same_numbers(numbers: [f64; 32], n: usize, before: [f64; 32]) -> bool {
     same
 }
 
+// The same of the flags, a byte each.
+fn same_flags(flags: [bool; 32], n: usize, before: [bool; 32]) -> bool {
+    let mut same = true;
+    for i in 0..32usize {
+        let mut due = replay::flag_code(before[i]);
+        if i < n {
+            due = replay::byte();
+        }
+        if replay::flag_code(flags[i]) != due {
+            same = false;
+        }
+    }
+    same
+}
+
 // How many of a model's 32 places its count takes.
 fn places(count: usize) -> usize
     ensures { λ r. ⌜ r ≤ 32 ⌝ }
@@ -84,19 +101,37 @@ fn same_model(before: PointingModel, m: PointingModel) -> bool {
     let names_before = before.names;
     let coefficients = m.coefficients;
     let coefficients_before = before.coefficients;
+    let flags = m.pier_sensitive;
+    let flags_before = before.pier_sensitive;
     let same_count = replay::small(65535) == m.count;
     let same = same_names(names, 16 * n, names_before);
     let same_too = same_numbers(coefficients, n, coefficients_before);
-    same_count && same && same_too
+    let same_last = same_flags(flags, n, flags_before);
+    same_count && same && same_too && same_last
 }
 
-// Whether a new model has no term, and zeros in all its places.
+// Whether a new model has no term, and zeros and false in all its places.
 fn is_empty(m: PointingModel) -> bool {
     let names = m.names;
     let coefficients = m.coefficients;
+    let flags = m.pier_sensitive;
     let no_names = same_names(names, 0, [0u8; 512]);
     let no_numbers = same_numbers(coefficients, 0, [0.0; 32]);
-    m.count == 0 && no_names && no_numbers
+    let no_flags = same_flags(flags, 0, [false; 32]);
+    m.count == 0 && no_names && no_numbers && no_flags
+}
+
+// Whether one of the first n flags has changed.
+fn flags_changed(before: [bool; 32], after: [bool; 32], n: usize) -> bool {
+    let mut changed = false;
+    for i in 0..32usize {
+        if i < n {
+            if before[i] != after[i] {
+                changed = true;
+            }
+        }
+    }
+    changed
 }
 
 // Counts a call that gave a number of a question, or 0.
@@ -113,8 +148,13 @@ fn count(mut t: Tally, refusal: u8, same: bool) -> Tally {
 }
 
 // A changed model, held against the oracle's.
-fn changed(t: Tally, before: PointingModel, r: Changed) -> Step {
+fn changed(mut t: Tally, before: PointingModel, r: Changed) -> Step {
     let m = r.model;
+    let flags_before = before.pier_sensitive;
+    let flags = m.pier_sensitive;
+    if flags_changed(flags_before, flags, before.count) {
+        t.mended = replay::more(t.mended);
+    }
     let same_refusal = replay::byte() == r.refusal;
     let same = same_model(before, m);
     let tally = count(t, r.refusal, same_refusal && same);
@@ -136,7 +176,7 @@ fn add(mut t: Tally, m: PointingModel, slot: &mut [u8], k: usize) -> Step
         if before < after.count {
             t.added = replay::more(t.added);
         } else {
-            t.equal = replay::more(t.equal);
+            t.there = replay::more(t.there);
         }
     }
     changed(t, m, r)
@@ -167,19 +207,22 @@ fn corrected(t: Tally, ours: Correction) -> Tally {
     }
 }
 
-// Whether the first n contributions are the oracle's next pairs, and the others 0.
-fn same_pairs(dh: [f64; 32], dd: [f64; 32], n: usize) -> bool {
+// Whether the first n contributions and flags are the oracle's next ones, and the others 0 and false.
+fn same_parts(dh: [f64; 32], dd: [f64; 32], flags: [bool; 32], n: usize) -> bool {
     let mut same = true;
     for i in 0..32usize {
         let mut h = 0.0;
         let mut d = 0.0;
+        let mut f = 0u8;
         if i < n {
             h = replay::double();
             d = replay::double();
+            f = replay::byte();
         }
         let same_h = replay::same_bits(dh[i], h);
         let same_d = replay::same_bits(dd[i], d);
-        same = same && same_h && same_d;
+        let same_f = replay::flag_code(flags[i]) == f;
+        same = same && same_h && same_d && same_f;
     }
     same
 }
@@ -189,9 +232,10 @@ fn broken_down(t: Tally, ours: Breakdown, n: usize) -> Tally {
     let refusal = ours.refusal;
     let dh = ours.dh;
     let dd = ours.dd;
+    let flags = ours.pier_sensitive;
     let same_refusal = replay::byte() == refusal;
     let given = if refusal == 0 { n } else { 0 };
-    let same = same_pairs(dh, dd, given);
+    let same = same_parts(dh, dd, flags, given);
     count(t, refusal, same_refusal && same)
 }
 
@@ -222,6 +266,15 @@ fn point(t: Tally, m: PointingModel, sheets: &[f64], op: u8) -> Tally {
     at_point(t, m, &sheets[from..from + l], p, op)
 }
 
+// The next 32 flags of standard input, a byte each.
+fn read_flags() -> [bool; 32] {
+    let mut flags = [false; 32];
+    for i in 0..32usize {
+        flags[i] = replay::byte() != 0;
+    }
+    flags
+}
+
 // A model made by hand.
 fn by_hand() -> PointingModel {
     let m = PointingModel::new();
@@ -230,9 +283,11 @@ fn by_hand() -> PointingModel {
     let count = replay::small(65535);
     replay::next(&mut names);
     read_numbers(&mut coefficients, 32);
+    let flags = read_flags();
     PointingModel {
         names: names,
         coefficients: coefficients,
+        pier_sensitive: flags,
         count: count,
     }
 }
@@ -295,7 +350,8 @@ fn report(t: Tally) {
     replay::line(b"calls", t.calls);
     replay::line(b"models", t.models);
     replay::line(b"added", t.added);
-    replay::line(b"equal", t.equal);
+    replay::line(b"there", t.there);
+    replay::line(b"mended", t.mended);
     replay::refused(1, t.refused[1]);
     replay::refused(2, t.refused[2]);
     replay::refused(4, t.refused[4]);
@@ -314,7 +370,8 @@ fn records(sheets: &[f64]) {
         calls: 0,
         models: 0,
         added: 0,
-        equal: 0,
+        there: 0,
+        mended: 0,
         refused: [0; 16],
         different: 0,
     };

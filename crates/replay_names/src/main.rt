@@ -16,6 +16,8 @@ use terms::TermKind;
 struct Tally {
     names: u64,
     read: u64,
+    // those that are pier sensitive
+    sensitive: u64,
     refused: [u64; 16],
     // harmonics of 4, 5 and 6 bytes in capitals
     short: [u64; 3],
@@ -119,17 +121,18 @@ fn same_components(cs: Components) -> bool {
     same
 }
 
-// The kind's four bytes as the oracle writes them: kind, TXN's number, result type, number of components.
-fn heading(t: Term) -> [u8; 4] {
+// The five bytes in front of the components as the oracle writes them: kind, TXN's number, result type, number of components, pier flag.
+fn heading(t: Term) -> [u8; 5] {
     let kind = t.kind;
     let cs = t.components;
     let count = (cs.count % 256) as u8;
+    let flag = replay::flag_code(t.pier_sensitive);
     match kind {
         TermKind::Equatorial(e) => {
             let k = equatorial_code(e);
-            [k.code, k.number, 0, count]
+            [k.code, k.number, 0, count, flag]
         }
-        TermKind::Harmonic(r) => [15, 0, result_code(r), count],
+        TermKind::Harmonic(r) => [15, 0, result_code(r), count, flag],
     }
 }
 
@@ -141,7 +144,7 @@ fn same_term(t: Term) -> bool {
     let mut expected = [0u8; 16];
     let given = replay::next(&mut expected);
     let same_name = check::same(&name, &expected);
-    let mut rest = [0u8; 4];
+    let mut rest = [0u8; 5];
     let rest_given = replay::next(&mut rest);
     let same_head = check::same(&head, &rest);
     let same_list = same_components(components);
@@ -198,6 +201,9 @@ fn count(mut t: Tally, r: Reading, name: &[u8]) -> Tally {
     }
     if expected == 0 {
         let term = r.term;
+        if term.pier_sensitive {
+            t.sensitive = replay::more(t.sensitive);
+        }
         if !same_term(term) {
             t.different = replay::more(t.different);
         }
@@ -224,6 +230,7 @@ fn record(t: Tally, n: u8) -> Tally {
 fn report(t: Tally) {
     replay::line(b"names", t.names);
     replay::line(b"read", t.read);
+    replay::line(b"pier sensitive", t.sensitive);
     replay::refused(2, t.refused[2]);
     replay::refused(7, t.refused[7]);
     replay::refused(8, t.refused[8]);
@@ -241,6 +248,7 @@ fn main() {
     let mut t = Tally {
         names: 0,
         read: 0,
+        sensitive: 0,
         refused: [0; 16],
         short: [0; 3],
         different: 0,

@@ -5,3 +5,5 @@ pub mod Slots
 pub mod Asked
 pub mod Parts
 pub mod Same
+pub mod Readings
+pub mod PierFlag

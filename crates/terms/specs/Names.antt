@@ -15,7 +15,9 @@ use Rattle.harmonic.specs.Harmonic.{isDigit, arrayOf, parseHarmonic}
 use Rattle.harmonic.specs.declared.Components.{Components}
 use Rattle.harmonic.specs.declared.HarmonicRead.{HarmonicRead}
 use Rattle.terms.specs.Questions.{ask, firstNo}
+use Rattle.terms.specs.Pier.{pierSensitive}
 use Rattle.terms.specs.declared.TermKind.{TermKind}
+use Rattle.terms.specs.declared.Term.{Term}
 use Rattle.terms.specs.declared.Reading.{Reading}
 use Rattle.terms.specs.declared.names.Known.{Known}
 use Rattle.terms.specs.declared.names.Known.the-variants.{Equatorial, AltAz, Other}
@@ -49,8 +51,11 @@ wellFormed slot =
 
 -- ---- answers
 
+abbrev pub termOf : TermKind → List ℕ → Components → Term
+termOf kind name cs = record { kind = kind; name = name; components = cs; «pier_sensitive» = pierSensitive kind }
+
 abbrev pub answer : ℕ → TermKind → List ℕ → Components → Reading
-answer n kind name cs = record { refusal = n; term = record { kind = kind; name = name; components = cs } }
+answer n kind name cs = record { refusal = n; term = termOf kind name cs }
 
 -- a refused reading carries a blank term
 abbrev pub refused : ℕ → Reading

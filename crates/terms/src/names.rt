@@ -15,6 +15,7 @@ ghost use Rattle.terms.specs.Inside.{Clean, keyOf, keyed, numberOf, numb
 use crate::Reading;
 use crate::Term;
 use crate::TermKind;
+use crate::pier::pier_sensitive;
 use equatorial::EquatorialTerm;
 use harmonic::Components;
 use harmonic::no_components;
@@ -43,6 +44,7 @@ pub fn refuse(number: u8) -> Reading
         kind: TermKind::Equatorial(EquatorialTerm::IH),
         name: name,
         components: components,
+        pier_sensitive: false,
     };
     Reading {
         refusal: number,
@@ -58,6 +60,7 @@ fn accept(kind: TermKind, name: [u8; SLOT], components: Components) -> Reading
         kind: kind,
         name: name,
         components: components,
+        pier_sensitive: pier_sensitive(kind),
     };
     Reading {
         refusal: 0,

@@ -11,9 +11,9 @@ const HELP: &str = "\
 pmf-card [--svg PLOT.svg] [-o CARD.txt] FILE.pmf [LISTING]
 
 Makes a card of the listing (a file, or standard input) that the fit printed of FILE.pmf: the
-coefficients in arcseconds beside what each term means, how far stars and model are apart, and
-whether the fit converged and its solution settled. It warns where something is to be looked at.
-With --svg it also plots each star's residual on the sky.
+coefficients in arcseconds beside what each term means and whether it flips with the mount, how far
+stars and model are apart, and whether the fit converged and its solution settled. It warns where
+something is to be looked at. With --svg it also plots each star's residual on the sky.
 
   fit <FILE.pmf | pmf-card --svg PLOT.svg FILE.pmf
 

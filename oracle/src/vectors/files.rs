@@ -1,12 +1,16 @@
 //! `replay_files`: listings of whole and damaged files.
 
+use super::pier;
 use super::random::Random;
 use super::runs::{still, Case, Maker, Pool, ITERATED, NAMES, ROBUST, SINGLE};
 use super::Vectors;
 use crate::pmf::{file, file_size, listing};
+use std::collections::BTreeSet;
 
 const MODES: [u8; 3] = [SINGLE, ITERATED, ROBUST];
 const HEADER: usize = 9;
+/// The bytes of the longest listing: 16 names of 16 bytes, each count and word as long as it can be.
+const LONGEST: usize = "fit 16 16 1000 yes 30 yes\n".len() + 16 * 56 + 38;
 /// Questions whose "no" a file's fields can have.
 const ASKED: [u8; 10] = [4, 5, 6, 7, 8, 9, 10, 11, 12, 13];
 
@@ -29,6 +33,10 @@ struct Records {
     refused: [usize; 16],
     /// First lines that end in 30 no, and in 30 yes.
     thirty: [usize; 2],
+    /// The names and last words of term lines.
+    lines: BTreeSet<(String, String)>,
+    /// The most bytes of a listing.
+    longest: usize,
 }
 
 impl Records {
@@ -50,6 +58,12 @@ impl Records {
         let first = listing.lines().next().expect("a first line");
         self.thirty[0] += first.ends_with(" 30 no") as usize;
         self.thirty[1] += first.ends_with(" 30 yes") as usize;
+        for line in listing.lines() {
+            if let [name, _, _, word] = line.split(' ').collect::<Vec<_>>()[..] {
+                self.lines.insert((name.into(), word.into()));
+            }
+        }
+        self.longest = self.longest.max(listing.len());
     }
 
     /// A whole file, the base of the damaged ones after it.
@@ -268,6 +282,18 @@ fn sweeps(records: &mut Records, maker: &mut Maker) {
     }
 }
 
+/// Terms that are pier sensitive and others; the longest listings that end in 30 no and in 30 yes.
+fn terms(records: &mut Records, maker: &mut Maker) {
+    for case in maker.by_terms(&MODES) {
+        records.whole(bytes(maker, &case));
+    }
+    for settled in [false, true] {
+        let case = maker.longest(settled);
+        records.whole(bytes(maker, &case));
+        records.change(6, &[SINGLE]);
+    }
+}
+
 pub fn vectors() -> Vectors {
     let mut random = Random::new(0x6669_6c65);
     let mut pool = Pool::new(&mut random, 220);
@@ -284,7 +310,10 @@ pub fn vectors() -> Vectors {
     regimes(records, maker);
     refusals(records, maker);
     sweeps(records, maker);
+    terms(records, maker);
     assert!(records.thirty.iter().all(|&count| count >= MODES.len()));
+    pier::assert_lines(&records.lines);
+    assert_eq!(records.longest, LONGEST);
     let mut stdout = format!("files {}\nfits {}\n", records.files, records.fits);
     for (number, count) in records.refused.iter().enumerate() {
         if *count > 0 {

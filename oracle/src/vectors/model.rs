@@ -1,6 +1,7 @@
 //! `replay_model`: sequences of calls on a model.
 
 use super::faults::REFUSED_NAMES;
+use super::mended::{some_flags, Mended};
 use super::random::{Random, EXTREME};
 use super::runs::{slot, Pool, NAMES, NOT_FINITE};
 use super::{angles, put_doubles, Vectors};
@@ -9,24 +10,27 @@ use crate::questions::{
 };
 use crate::sheet::SHEET;
 
-struct Calls {
-    random: Random,
+pub struct Calls {
+    pub random: Random,
+    /// For the flags of models made by hand.
+    flags: Random,
     pool: Pool,
-    model: Model,
+    pub model: Model,
     stdin: Vec<u8>,
     calls: usize,
     models: usize,
     added: usize,
-    equal: usize,
+    there: usize,
+    mended: Mended,
     refused: [usize; 15],
 }
 
 /// A sheet's length and place in the pool, the latitude and the pier code.
-struct Place {
-    len: usize,
+pub struct Place {
+    pub len: usize,
     sheet: usize,
-    lat: [f64; 2],
-    pier: u8,
+    pub lat: [f64; 2],
+    pub pier: u8,
 }
 
 /// Whether a call kept what lies behind the count of the model that it gave.
@@ -34,21 +38,49 @@ fn kept_behind(before: &Model, after: &Model) -> bool {
     let bits = |model: &Model| model.coefficients.map(f64::to_bits);
     before.names[after.count..] == after.names[after.count..]
         && bits(before)[after.count..] == bits(after)[after.count..]
+        && before.pier_sensitive[after.count..] == after.pier_sensitive[after.count..]
 }
 
 impl Calls {
+    fn new() -> Self {
+        let mut random = Random::new(0x6d6f_6465);
+        let pool = Pool::new(&mut random, 60);
+        Self {
+            random,
+            flags: Random::new(0x666c_6167),
+            stdin: pool.head(),
+            pool,
+            model: Model::default(),
+            calls: 0,
+            models: 0,
+            added: 0,
+            there: 0,
+            mended: Mended::default(),
+            refused: [0; 15],
+        }
+    }
+
     fn new_model(&mut self) {
         self.stdin.push(0);
         self.models += 1;
+        self.mended.made(false);
         self.model = Model::default();
     }
 
-    fn hand_made(&mut self, model: Model) {
+    /// A model made by hand, with flags of any sort.
+    fn hand_made(&mut self, mut model: Model) {
+        model.pier_sensitive = some_flags(&model, &mut self.flags);
+        self.by_hand(model);
+    }
+
+    pub fn by_hand(&mut self, model: Model) {
         self.stdin.push(5);
         self.stdin.extend((model.count as u16).to_le_bytes());
         self.stdin.extend(model.names.as_flattened());
         put_doubles(&mut self.stdin, &model.coefficients);
+        self.stdin.extend(model.pier_sensitive.map(u8::from));
         self.models += 1;
+        self.mended.made(true);
         self.model = model;
     }
 
@@ -70,9 +102,11 @@ impl Calls {
         let names = &self.model.names[..places];
         self.stdin.extend(names.as_flattened());
         put_doubles(&mut self.stdin, &self.model.coefficients[..places]);
+        let flags = &self.model.pier_sensitive[..places];
+        self.stdin.extend(flags.iter().map(|&flag| u8::from(flag)));
     }
 
-    fn add(&mut self, slot: &[u8]) {
+    pub fn add(&mut self, slot: &[u8]) {
         self.stdin.extend([1, slot.len() as u8]);
         self.stdin.extend(slot);
         let before = self.model.count;
@@ -80,24 +114,26 @@ impl Calls {
         if answer.is_ok() {
             let rose = answer.as_ref().is_ok_and(|model| model.count > before);
             self.added += rose as usize;
-            self.equal += !rose as usize;
+            self.there += !rose as usize;
         }
+        self.mended.changed(&self.model, Some(slot), &answer);
         self.put_model(answer);
     }
 
-    fn add_name(&mut self, name: &str) {
+    pub fn add_name(&mut self, name: &str) {
         self.add(&slot(name.as_bytes()));
     }
 
-    fn set(&mut self, coefficients: &[f64]) {
+    pub fn set(&mut self, coefficients: &[f64]) {
         self.stdin.extend([2, coefficients.len() as u8]);
         put_doubles(&mut self.stdin, coefficients);
         let answer = set_coefficients(&self.model, coefficients);
+        self.mended.changed(&self.model, None, &answer);
         self.put_model(answer);
     }
 
     /// The correction, then the breakdown.
-    fn at(&mut self, place: &Place) {
+    pub fn at(&mut self, place: &Place) {
         let sheets = &self.pool.sheets[place.sheet..place.sheet + 2];
         let sheet = sheets.as_flattened()[..place.len].to_vec();
         let point = Point {
@@ -106,23 +142,30 @@ impl Calls {
             cos_lat: place.lat[1],
             pier: place.pier,
         };
-        for op in [3, 4] {
-            self.stdin.extend([op, place.len as u8]);
-            self.stdin.extend((place.sheet as u16).to_le_bytes());
-            put_doubles(&mut self.stdin, &place.lat);
-            self.stdin.push(place.pier);
-            let answer = match op {
-                3 => apply_equatorial(&self.model, &point).map(|pair| vec![pair]),
-                _ => predict_breakdown(&self.model, &point),
-            };
-            self.answer(answer.as_ref().err().copied().unwrap_or(0));
-            for (h, d) in answer.unwrap_or_default() {
-                put_doubles(&mut self.stdin, &[h, d]);
-            }
+        self.put_place(3, place);
+        let answer = apply_equatorial(&self.model, &point);
+        self.answer(answer.err().unwrap_or(0));
+        if let Ok((h, d)) = answer {
+            put_doubles(&mut self.stdin, &[h, d]);
+        }
+        self.put_place(4, place);
+        let answer = predict_breakdown(&self.model, &point);
+        self.mended.broken_down(&self.model, &answer);
+        self.answer(answer.as_ref().err().copied().unwrap_or(0));
+        for (h, d, flag) in answer.unwrap_or_default() {
+            put_doubles(&mut self.stdin, &[h, d]);
+            self.stdin.push(flag as u8);
         }
     }
 
-    fn real_place(&mut self) -> Place {
+    fn put_place(&mut self, op: u8, place: &Place) {
+        self.stdin.extend([op, place.len as u8]);
+        self.stdin.extend((place.sheet as u16).to_le_bytes());
+        put_doubles(&mut self.stdin, &place.lat);
+        self.stdin.push(place.pier);
+    }
+
+    pub fn real_place(&mut self) -> Place {
         let real = self.pool.real.clone();
         Place {
             len: SHEET,
@@ -176,7 +219,7 @@ impl Calls {
         }
     }
 
-    fn numbers(&mut self, count: usize) -> Vec<f64> {
+    pub fn numbers(&mut self, count: usize) -> Vec<f64> {
         (0..count).map(|_| self.number()).collect()
     }
 
@@ -366,7 +409,7 @@ impl Calls {
     }
 
     /// A model made by hand of these names, with coefficients from 1.5 on.
-    fn model_of(&mut self, names: &[&str]) -> Model {
+    pub fn model_of(&mut self, names: &[&str]) -> Model {
         let mut model = Model {
             count: names.len(),
             ..Model::default()
@@ -456,19 +499,7 @@ impl Calls {
 }
 
 pub fn vectors() -> Vectors {
-    let mut random = Random::new(0x6d6f_6465);
-    let pool = Pool::new(&mut random, 60);
-    let mut calls = Calls {
-        random,
-        stdin: pool.head(),
-        pool,
-        model: Model::default(),
-        calls: 0,
-        models: 0,
-        added: 0,
-        equal: 0,
-        refused: [0; 15],
-    };
+    let mut calls = Calls::new();
     // the model that a file starts with is empty
     let place = calls.real_place();
     calls.at(&place);
@@ -481,8 +512,10 @@ pub fn vectors() -> Vectors {
     }
     calls.hand_made_models();
     calls.overflowing();
+    calls.by_flags();
     let mut stdout = format!("calls {}\nmodels {}\n", calls.calls, calls.models);
-    stdout += &format!("added {}\nequal {}\n", calls.added, calls.equal);
+    stdout += &format!("added {}\nthere {}\n", calls.added, calls.there);
+    stdout += &format!("mended {}\n", calls.mended.count());
     for number in [1, 2, 4, 5, 7, 8, 9, 10, 14] {
         assert!(calls.refused[number] > 0);
         stdout += &format!("refused {number} {}\n", calls.refused[number]);

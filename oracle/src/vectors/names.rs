@@ -1,30 +1,34 @@
 //! `replay_names`: what a name slot is read as.
 
+use super::pier::{self, Spelled};
 use super::random::Random;
 use super::Vectors;
 use crate::questions::{read_term, stored_name};
 use crate::terms::harmonic::{parse_harmonic, Coordinate, TrigFunc};
 use crate::terms::Term;
+use std::collections::BTreeSet;
 
-const KINDS: [&str; 15] = [
+pub const KINDS: [&str; 15] = [
     "IH", "ID", "CH", "NP", "MA", "ME", "TF", "TX", "TXN", "DAF", "FO", "HCES", "HCEC", "DCES",
     "DCEC",
 ];
-const HARMONIC: u8 = 15;
+pub const HARMONIC: u8 = 15;
 const ALTAZ: [&str; 6] = ["IA", "IE", "CA", "NPAE", "AN", "AW"];
 
 /// The bytes that the reader of harmonics compares with, and one of each other sort: another
 /// letter, a letter of other names, marks, controls and bytes that aren't ASCII.
 const HARMONIC_BYTES: &[u8] = b"HDXPAEZSC0123456789BT+!\x01\x7f\x80\xff";
 
-/// Kind, number, result, and the components as they are stored.
+/// Kind, number, result, count of the components, whether the term is pier sensitive, and the
+/// components as they are stored.
 pub fn describe(term: &dyn Term) -> Vec<u8> {
     let name = term.name();
+    let flag = term.pier_sensitive() as u8;
     if let Some(kind) = KINDS.iter().position(|k| *k == name) {
-        return vec![kind as u8, 0, 0, 0];
+        return vec![kind as u8, 0, 0, 0, flag];
     }
     if let Some(number) = name.strip_prefix("TX") {
-        return vec![8, number.parse().expect("a number"), 0, 0];
+        return vec![8, number.parse().expect("a number"), 0, 0, flag];
     }
     let harmonic = parse_harmonic(name).expect("a harmonic");
     let mut out = vec![
@@ -32,6 +36,7 @@ pub fn describe(term: &dyn Term) -> Vec<u8> {
         0,
         harmonic.result as u8,
         harmonic.components.len() as u8,
+        flag,
     ];
     for component in &harmonic.components {
         out.push((component.func == TrigFunc::Cos) as u8);
@@ -82,9 +87,12 @@ struct Records {
     stdin: Vec<u8>,
     names: usize,
     refused: [usize; 11],
+    pier_sensitive: usize,
     short: [usize; 3],
     /// The short harmonics stand in the file once, where they are all listed.
     listed: bool,
+    /// What was read, by kind and spelling.
+    spelled: BTreeSet<Spelled>,
 }
 
 impl Records {
@@ -105,6 +113,8 @@ impl Records {
                     }
                     self.short[given.len() - 4] += 1;
                 }
+                self.pier_sensitive += term.pier_sensitive() as usize;
+                self.spelled.insert(Spelled::of(given, &description));
                 answer.push(0);
                 answer.extend(stored_name(term.as_ref()));
                 answer.extend(description);
@@ -390,7 +400,12 @@ pub fn vectors() -> Vectors {
     add_chosen(&mut records);
     add_random(&mut records, random);
     add_slots(&mut records, random);
+    for name in pier::names() {
+        records.add16(&name);
+    }
+    pier::assert_spelled(&records.spelled);
     let mut stdout = format!("names {}\nread {}\n", records.names, records.refused[0]);
+    stdout += &format!("pier sensitive {}\n", records.pier_sensitive);
     for number in [2, 7, 8, 9, 10] {
         stdout += &format!("refused {number} {}\n", records.refused[number]);
     }

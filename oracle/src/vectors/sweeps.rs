@@ -12,7 +12,18 @@ impl Maker<'_> {
     /// vanish, and on many stars the rounding of its dot products makes it turn again.
     pub fn nearly_dependent(&mut self, mode: u8, m: usize, n: usize, places: usize) -> Case {
         let names = self.names(m, &NAMES[..FLAT]);
-        let mut case = self.blank(mode, &names, n);
+        self.nearly_dependent_of(mode, &names, n, places)
+    }
+
+    /// The same with the names given.
+    pub fn nearly_dependent_of(
+        &mut self,
+        mode: u8,
+        names: &[&str],
+        n: usize,
+        places: usize,
+    ) -> Case {
+        let mut case = self.blank(mode, names, n);
         for i in 0..n {
             case.sheets[i] = (self.pool.near.start + i * places / n) as u16;
             case.run.piers[i] = 1 + (2 * i >= n) as u8;

@@ -50,6 +50,11 @@ weighed-column-requires c κs =
     let s = c .before .before .before .before .before .before .before .before .before .before .before .before .before .before .before .before in
     (s .pre .0, inl (omega arith), omega arith, omega arith)
 
+add-i : tie.Need-add-i Inv-loop μ-loop
+add-i c =
+    let loop-test = c .before .before .before .before .before .before .before .before .before .before .before .before in
+    omega (arith, loop-test .before .before .before .before .before .before .before .before .before .before .before .before .pre .1)
+
 loop-again : tie.Need-loop-again Inv-loop μ-loop
 loop-again c =
     let add = c .before .before in
@@ -105,7 +110,7 @@ free-product-spec =
     (λ c. omega arith)
     (λ c. omega arith)
     (λ c κs. (omega arith, omega arith))
-    (λ c. omega arith)
+    add-i
     (λ c. omega arith)
     loop-again
     (λ c. omega arith)

@@ -8,9 +8,12 @@ use Rattle.listing.proofs.put_fit.Tie as tie
 returns : tie.Need-returns
 unfolding fitText skyLine
 returns c =
-    let s = c .before .before .before .before .before .before in
-    let t = s .before .before .before .before .before in
-    wrote-then (wrote-then (t .before .before .before .before .put-counts .ensures .0) (t .put-terms .ensures .0)) (wrote-then (s .put-bytes .ensures) (c .before .before .put-floats .ensures .0))
+    let end = c .before .before in
+    let numbers = end .before .before .before .before in
+    let word = numbers .before .before .before .before in
+    let terms = word .before .before .before .before .before in
+    let sky = wrote-then (wrote-then (word .put-bytes .ensures) (numbers .put-floats .ensures .0)) (end .put-byte .ensures) in
+    wrote-then (wrote-then (terms .before .before .before .before .put-counts .ensures .0) (terms .put-terms .ensures .0)) sky
 
 pub put-fit-spec : {M : Type 1} → statement M
 put-fit-spec =
@@ -19,6 +22,7 @@ put-fit-spec =
     (λ c κs. search needs)
     (λ c κs. search needs)
     (λ c. search needs)
+    (λ c κs. search needs)
     (λ c κs. search needs)
     (λ c κs. search needs)
     (λ c. search needs)

@@ -18,7 +18,7 @@ lineOf names coefficients sigma j = termLine (part names (16 * j) 16) (at coeffi
 
 abbrev Inv-loop : tie.InvT-loop
 Inv-loop out₀ place names m coefficients sigma next₀ j₀ out next j =
-    (j ≤ m) × (length out ≡ length out₀) × (next ≤ place + 51 * j) × Wrote (concatTo j (lineOf names coefficients sigma)) place out₀ out next
+    (j ≤ m) × (length out ≡ length out₀) × (next ≤ place + 56 * j) × Wrote (concatTo j (lineOf names coefficients sigma)) place out₀ out next
 
 abbrev μ-loop : tie.MeasureT-loop
 μ-loop out₀ place names m coefficients sigma next₀ j₀ out next j = m - j

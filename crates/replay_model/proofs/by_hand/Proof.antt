@@ -24,4 +24,5 @@ by-hand-spec =
     (λ c κs. search needs)
     (λ c. search needs)
     read-numbers-requires
+    (λ c κs. tt)
     returns)
