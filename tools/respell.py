@@ -120,6 +120,14 @@ def main():
         raise SystemExit(f"respell: {bad} names fall together; nothing was written")
     for f, out in written.items():
         open(f, "w", encoding="utf-8").write(out)
+    # what a file brings in under another name
+    for f in files() + sources():
+        text = open(f, encoding="utf-8").read()
+        out = text
+        for name in set(re.findall(r" as ([a-z]\w*[A-Z]\w*)", text)):
+            out = re.sub(rf"\b{name}\b", "single_step_case" if name == "singleStep" else snake(name), out)
+        if out != text:
+            open(f, "w", encoding="utf-8").write(out)
     for f in glob.glob("docs/*.md") + ["README.md", "oracle/README.md", "host/README.md"]:
         text = open(f, encoding="utf-8").read()
         out = re.sub(r"`[^`\n]*`", lambda m: pattern.sub(lambda k: turned[k[1]], m[0]), text)

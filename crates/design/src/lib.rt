@@ -12,7 +12,7 @@ ghost use Rattle.equatorial.specs.Equatorial.{kind_of, equatorial_jacobian};
 ghost use Rattle.harmonic.specs.Value.{evaluate, harmonic_jacobian};
 ghost use Rattle.design.specs.Design.{Star, sheet_at, star_at, stars_at, sights_at, term_at, cos_dec, point_at};
 ghost use Rattle.design.specs.Design.{pairs, column, sky_column, differences, sky_differences, sky_rows, less, plus};
-ghost use Rattle.design.specs.Design.{subtract_all, product as productOf, predicted, extracted, weighed as weighedOf, weighing, weighed_at};
+ghost use Rattle.design.specs.Design.{subtract_all, product as product_of, predicted, extracted, weighed as weighed_of, weighing, weighed_at};
 ghost use Rattle.design.specs.Counted.{Below, Seen, Named, Apart};
 ghost use Rattle.design.specs.Matrix.{matrix_of, FilledUpTo, FillsColumn, HasRoom};
 
@@ -241,7 +241,7 @@ pub fn copy(w: &mut [f64], x: usize, y: usize, n: usize)
 
 // A number of a row whose residual is r, with the row's Huber weight.
 fn weighed(k: f64, r: f64, x: f64) -> f64
-    ensures { result ≡ weighedOf k r x }
+    ensures { result ≡ weighed_of k r x }
 {
     let size = float::abs(r);
     if size > k {
@@ -463,7 +463,7 @@ pub fn product(
     requires seen { Seen pier.now sheets.now used.now × (length coefficients.now ≤ max_terms)
         × (length names.now ≡ slot_bytes * length coefficients.now) × (length v.old ≡ 4 * length used.now) }
     ensures { part v.new (2 * length used.now) (2 * length used.now)
-        ≡ productOf (2 * length used.now) (length coefficients.now) (at coefficients.now)
+        ≡ product_of (2 * length used.now) (length coefficients.now) (at coefficients.now)
         (λ j. column s ss (term_at names.now j)) }
 {
     let rows = 2 * used.len();
@@ -517,7 +517,7 @@ pub fn free_product(
     requires seen { Seen pier.now sheets.now used.now × (length free.now ≤ max_terms) × Named names.now free.now
         × (length v.old ≡ 8 * length used.now) }
     ensures filled { part v.new (2 * length used.now) (2 * length used.now)
-        ≡ productOf (2 * length used.now) (length free.now) (at x.now) (extracted free.now
+        ≡ product_of (2 * length used.now) (length free.now) (at x.now) (extracted free.now
         (weighed_at k (part v.old (6 * length used.now) (2 * length used.now)) s ss names.now)) }
     ensures only { Only 0 (4 * length used.now) v.old v.new }
 {

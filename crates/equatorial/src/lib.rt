@@ -7,7 +7,7 @@ ghost use Rattle.equatorial.specs.Equatorial.{sin_alt, flexure_h, flexure_d, tf_
 
 use observation::{Pair, Point};
 
-#[derive(Drop)]
+#[derive(Clone, Copy)]
 pub enum EquatorialTerm {
     IH,
     ID,

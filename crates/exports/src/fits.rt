@@ -8,7 +8,7 @@ use solver::{Fit, FitResult, IterOptions, Settings, SigmaBy, Sizes};
 
 // solver::Fit for C: 0 and the fields of a result, or the number of the question that refused the fit and zeros.
 #[repr(C)]
-#[derive(Drop)]
+#[derive(Clone, Copy)]
 pub struct FitAnswer {
     pub refusal: u8,
     pub sky_rms: f64,

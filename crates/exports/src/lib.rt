@@ -35,7 +35,7 @@ pub extern "C" fn pointing_sqrt(x: f64) -> f64
 
 // 0 and how many numbers of scratch a fit needs, or 1 and 0.
 #[repr(C)]
-#[derive(Drop)]
+#[derive(Clone, Copy)]
 pub struct ScratchLength {
     pub refusal: u8,
     pub length: usize,

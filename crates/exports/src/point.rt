@@ -9,7 +9,7 @@ use terms::answer::Jacobian;
 
 // 0 and a pair, or the number of the question that refused and zeros.
 #[repr(C)]
-#[derive(Drop)]
+#[derive(Clone, Copy)]
 pub struct PairAnswer {
     pub refusal: u8,
     pub dh: f64,

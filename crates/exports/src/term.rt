@@ -10,7 +10,7 @@ use terms::{Reading, TermKind};
 
 // 0 and a term in numbers, or the number of the question that refused the name, zeros and false.
 #[repr(C)]
-#[derive(Drop)]
+#[derive(Clone, Copy)]
 pub struct TermAnswer {
     pub refusal: u8,
     // from 0 in the order of equatorial::EquatorialTerm; 15 for a harmonic
@@ -28,7 +28,7 @@ pub struct TermAnswer {
     pub pier_sensitive: bool,
 }
 
-#[derive(Drop)]
+#[derive(Clone, Copy)]
 pub struct ComponentCodes {
     pub functions: [u8; 7],
     pub coordinates: [u8; 7],

@@ -20,14 +20,14 @@ use solver::{Fit, FitResult, IterOptions, IterReport, Settings, SigmaBy, Sizes};
 use validate::Asked;
 
 // What comes of a trial: its chi-square and the step's length where it is kept, and else the raised damping.
-#[derive(Drop)]
+#[derive(Clone, Copy)]
 pub enum Trial {
     Accepted(f64, f64),
     Rejected(f64),
 }
 
 // How the loop came to the set in hand.
-#[derive(Drop)]
+#[derive(Clone, Copy)]
 pub struct LmLoopResult {
     pub iterations: usize,
     pub converged: bool,
@@ -37,7 +37,7 @@ pub struct LmLoopResult {
 }
 
 // The set that a step leads to, at the front of an array, its chi-square, and the solver's answer.
-#[derive(Drop)]
+#[derive(Clone, Copy)]
 struct Proposal {
     pub set: [f64; MAX_TERMS],
     pub chi2: f64,
@@ -205,7 +205,7 @@ fn run_lm_loop(
 }
 
 // The chi-square of the set after the last trial, and the solver's answer.
-#[derive(Drop)]
+#[derive(Clone, Copy)]
 struct LastTrial {
     pub chi2: f64,
     pub solved: SolveOutcome,

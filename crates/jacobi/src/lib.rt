@@ -4,10 +4,10 @@
 // so that one turn turns A and V.
 
 ghost use Rattle.std.specs.Prelude.{◌≡◌, Bool, true, ◌+◌, ◌*◌, ◌≤◌, ◌<◌, length};
-ghost use Rattle.jacobi.specs.Jacobi.{products, turns as turnsOf, zeta_of, tan_of, cos_of, turn as turn_of, pair as pair_of, factorised};
+ghost use Rattle.jacobi.specs.Jacobi.{products, turns as turns_of, zeta_of, tan_of, cos_of, turn as turn_of, pair as pair_of, factorised};
 
 // The squared norms of two columns and their dot product. With gamma first the compiler adds the two norms as one vector.
-#[derive(Drop)]
+#[derive(Clone, Copy)]
 struct Products {
     gamma: f64,
     alpha: f64,
@@ -16,7 +16,7 @@ struct Products {
 
 // How many sweeps were made, and whether the last had no turn.
 #[repr(C)]
-#[derive(Drop)]
+#[derive(Clone, Copy)]
 pub struct Sweeps {
     pub made: usize,
     pub settled: bool,
@@ -76,7 +76,7 @@ fn cosine(t: f64) -> f64
 
 // Whether columns with these sums turn. The number compared with is 2^-100.
 fn turns(alpha: f64, beta: f64, gamma: f64) -> bool
-    ensures { result ≡ turnsOf alpha beta gamma }
+    ensures { result ≡ turns_of alpha beta gamma }
 {
     gamma * gamma > 7.888609052210118e-31 * (alpha * beta)
 }
@@ -166,7 +166,7 @@ fn turn_pair(
     a: Products,
 ) -> Products
     requires { (p < q) × (q < m) × (rows + m ≤ h) × (m * h ≤ length w.old) × (a ≡ products rows (p * h) (q * h) w.old)
-        × (turnsOf a.alpha a.beta a.gamma ≡ true) }
+        × (turns_of a.alpha a.beta a.gamma ≡ true) }
     ensures turned { (b : Bool) → record { w = w.exit.now; turned = true } ≡ pair_of h rows m p q (record { w = w.entry.now; turned = b }) }
     ensures next { q + 1 < m → result ≡ products rows (p * h) ((q + 1) * h) w.new }
 {

@@ -6,8 +6,8 @@ ghost use Rattle.std.specs.Prelude.{◌≡◌, ◌+◌, ◌*◌, ◌≤◌, ◌<
 ghost use Rattle.limits.specs.Limits.{max_terms};
 ghost use Rattle.sequence.specs.Sequence.{part, Only};
 ghost use Rattle.column.specs.Column.{extended};
-ghost use Rattle.linalg.specs.Linalg.{Taken, Placed, entry as entry_of, threshold as thresholdOf, inverses as inversesOf, rank_to, projected, x_scaled};
-ghost use Rattle.linalg.specs.Linalg.{solution as solutionOf, scaled_variance as scaledVarianceOf, covariance as covarianceOf, leverage_of};
+ghost use Rattle.linalg.specs.Linalg.{Taken, Placed, entry as entry_of, threshold as threshold_of, inverses as inverses_of, rank_to, projected, x_scaled};
+ghost use Rattle.linalg.specs.Linalg.{solution as solution_of, scaled_variance as scaled_variance_of, covariance as covariance_of, leverage_of};
 ghost use Rattle.linalg.specs.Linalg.{decomposed, in_order, answered, solved, solved_damped};
 
 use limits::MAX_TERMS;
@@ -16,7 +16,7 @@ use limits::MAX_TERMS;
 // whether the last had no turn. In the leverage's place stand inv_s and the order of the columns, from
 // which `leverage` gives it row by row.
 #[repr(C)]
-#[derive(Drop)]
+#[derive(Clone, Copy)]
 pub struct SolveOutcome {
     pub x: [f64; MAX_TERMS],
     pub cov_diag: [f64; MAX_TERMS],
@@ -30,7 +30,7 @@ pub struct SolveOutcome {
 }
 
 // The norms of A's columns, the singular values as the columns lie, and how the sweeps ended.
-#[derive(Drop)]
+#[derive(Clone, Copy)]
 struct Factors {
     pub norms: [f64; MAX_TERMS],
     pub values: [f64; MAX_TERMS],
@@ -39,7 +39,7 @@ struct Factors {
 }
 
 // The inverses of the singular values above the threshold, in their order, and how many there are.
-#[derive(Drop)]
+#[derive(Clone, Copy)]
 struct Inverses {
     pub inv_s: [f64; MAX_TERMS],
     pub rank: usize,
@@ -67,7 +67,7 @@ fn decompose(w: &mut [f64], h: usize, rows: usize, m: usize) -> Factors
 
 // A singular value counts where it is above this.
 fn threshold(fit_tol: f64, sigma_max: f64) -> f64
-    ensures { result ≡ thresholdOf fit_tol sigma_max }
+    ensures { result ≡ threshold_of fit_tol sigma_max }
 {
     if fit_tol > 0.0 {
         return fit_tol * sigma_max;
@@ -79,7 +79,7 @@ fn threshold(fit_tol: f64, sigma_max: f64) -> f64
 fn invert(s: &[f64; MAX_TERMS], o: &[usize], t: f64) -> Inverses
     requires { Taken o.now }
     ensures { result ≡ record {
-      inv_s = inversesOf t s.now o.now;
+      inv_s = inverses_of t s.now o.now;
       rank = rank_to (length o.now) t s.now
           o.now;
     } }
@@ -148,7 +148,7 @@ fn solution(
     norms: &[f64; MAX_TERMS],
 ) -> [f64; MAX_TERMS]
     requires { Placed h w.now o.now × (rows + length o.now ≤ h) }
-    ensures { result ≡ solutionOf h rows w.now o.now z.now norms.now }
+    ensures { result ≡ solution_of h rows w.now o.now z.now norms.now }
 {
     let mut x = [0.0; MAX_TERMS];
     for j in 0..o.len() {
@@ -160,7 +160,7 @@ fn solution(
 // The sum of the squares of row r of V times inv_s, where that isn't 0.
 fn scaled_variance(w: &[f64], h: usize, o: &[usize], r: usize, inv_s: &[f64; MAX_TERMS]) -> f64
     requires { Placed h w.now o.now × (r < h) }
-    ensures { result ≡ scaledVarianceOf h w.now o.now inv_s.now r }
+    ensures { result ≡ scaled_variance_of h w.now o.now inv_s.now r }
 {
     let mut t = 0.0;
     for i in 0..o.len() {
@@ -183,7 +183,7 @@ fn covariance(
     norms: &[f64; MAX_TERMS],
 ) -> [f64; MAX_TERMS]
     requires { Placed h w.now o.now × (rows + length o.now ≤ h) }
-    ensures { result ≡ covarianceOf h rows w.now o.now inv_s.now norms.now }
+    ensures { result ≡ covariance_of h rows w.now o.now inv_s.now norms.now }
 {
     let mut d = [0.0; MAX_TERMS];
     for j in 0..o.len() {

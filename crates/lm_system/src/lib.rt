@@ -8,8 +8,8 @@ ghost use Rattle.design.specs.Design.{RunInputs, run_inputs, run_from, sights_at
 ghost use Rattle.design.specs.Counted.{Below, Named, Read, Counted};
 ghost use Rattle.outcome.specs.Scratch.{count_of, residuals_in, b_in, sky_in, solved_in, Fits};
 ghost use Rattle.lm_system.specs.System.{residuals_under, sky_residuals, chi2_at, huber_from, weighed_residuals, lm_step, moved};
-ghost use Rattle.lm_system.specs.System.{larger as largerOf, largest as largestOf, step_norm};
-ghost use Rattle.lm_system.specs.Kinds.{rotates as rotatesOf, of_kind};
+ghost use Rattle.lm_system.specs.System.{larger as larger_of, largest as largest_of, step_norm};
+ghost use Rattle.lm_system.specs.Kinds.{rotates as rotates_of, of_kind};
 
 use equatorial::EquatorialTerm;
 use limits::MAX_TERMS;
@@ -168,7 +168,7 @@ pub fn trial_state_from(free: &[u16], x: &[f64; MAX_TERMS], set: &[f64]) -> [f64
 }
 
 fn rotates(t: EquatorialTerm) -> bool
-    ensures { result ≡ rotatesOf t }
+    ensures { result ≡ rotates_of t }
 {
     match t {
         EquatorialTerm::IH => true,
@@ -200,7 +200,7 @@ fn rotational(kind: TermKind) -> bool
 
 // The larger of `most` and the step x of a term, in radians, if the term is rotational.
 fn larger(kind: TermKind, x: f64, most: f64) -> f64
-    ensures { result ≡ largerOf (of_kind kind) x most }
+    ensures { result ≡ larger_of (of_kind kind) x most }
 {
     if !rotational(kind) {
         return most;
@@ -215,7 +215,7 @@ fn larger(kind: TermKind, x: f64, most: f64) -> f64
 // The largest step of a free rotational term, in radians.
 fn largest(names: &[u8], free: &[u16], x: &[f64]) -> f64
     requires { Named names.now free.now × Read names.now free.now × (length x.now ≡ length free.now) }
-    ensures { result ≡ largestOf (term_at names.now) free.now x.now }
+    ensures { result ≡ largest_of (term_at names.now) free.now x.now }
 {
     let mut most = 0.0;
     for i in 0..free.len() {

@@ -6,7 +6,7 @@ ghost use Rattle.sequence.specs.Sequence.{at};
 ghost use Rattle.observation.specs.Observation.{sign_of, side_of};
 ghost use Rattle.observation.specs.Sheet.{point_of};
 
-#[derive(Drop)]
+#[derive(Clone, Copy)]
 pub enum PierSide {
     East,
     West,
@@ -38,14 +38,14 @@ impl PierSide {
 }
 
 // A term's contributions to the hour angle and to the declination.
-#[derive(Drop)]
+#[derive(Clone, Copy)]
 pub struct Pair {
     pub dh: f64,
     pub dd: f64,
 }
 
 // What the equatorial terms read of an observation. The pier is the sign of its side.
-#[derive(Drop)]
+#[derive(Clone, Copy)]
 pub struct Point {
     pub sin_h: f64,
     pub cos_h: f64,

@@ -11,7 +11,7 @@ use Rattle.solver.specs.declared.SigmaBy.TheVariants.{Stars}
 use Rattle.solver.specs.Call.{FitInputs, Buffers, buffers, sizes_of}
 use Rattle.validate.specs.Questions.{scratch_needed, asked}
 use Rattle.outcome.specs.Outcome.{Outcome, decided}
-use Rattle.single_step.specs.SingleStep.{fitted as singleStep}
+use Rattle.single_step.specs.SingleStep.{fitted as single_step_case}
 use Rattle.iterated.specs.Iterated.{fitted as iterated}
 use Rattle.listing.specs.Listing.{fit_text, refusal_text, listing_room}
 use Rattle.pmf.specs.File.{file_terms, file_stars, mark_of, version_of, term_count, mode_of, star_count, file_size, input_of, options_of}
@@ -51,7 +51,7 @@ room =
 
 -- the fit of a mode: 0 is the single step, 1 and 3 are the iterated fit; sigma is by stars
 unfoldable pub fit_of : ℕ → FitInputs → IterOptions → Buffers → Outcome
-fit_of mode l o b = cond (eqb mode 0) (singleStep l Stars b) (iterated l Stars o b)
+fit_of mode l o b = cond (eqb mode 0) (single_step_case l Stars b) (iterated l Stars o b)
 
 -- the questions are put to every field in every mode, then the fit is made
 unfoldable pub outcome_of : ℕ → FitInputs → IterOptions → Outcome

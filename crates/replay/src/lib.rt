@@ -19,7 +19,7 @@ pub fn byte() -> u8 {
 
 // What standard input goes on with: where `more`, a record whose first byte is `first`; else its end, which is `whole` where the mark
 // stands there and nothing behind it.
-#[derive(Drop)]
+#[derive(Clone, Copy)]
 pub struct Ahead {
     pub more: bool,
     pub first: u8,
@@ -106,7 +106,7 @@ pub fn read_doubles(s: &mut [f64]) {
 }
 
 // Whether the numbers held so far are the oracle's, and whether each is a number.
-#[derive(Drop)]
+#[derive(Clone, Copy)]
 pub struct Held {
     pub same: bool,
     pub numbers: bool,

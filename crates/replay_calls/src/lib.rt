@@ -7,7 +7,7 @@ ghost use Rattle.replay_calls.specs.Room.{Lent, InRoom};
 use replay::{Held, hold, hold_all, read_doubles};
 use solver::{Fit, FitResult, IterOptions, Settings, SigmaBy};
 
-#[derive(Drop)]
+#[derive(Clone, Copy)]
 struct Tally {
     fits: u64,
     done: u64,
@@ -23,7 +23,7 @@ struct Tally {
 }
 
 // How much is lent, and how many places the buffers have.
-#[derive(Drop)]
+#[derive(Clone, Copy)]
 struct Sizes {
     m: usize,
     n: usize,
@@ -40,7 +40,7 @@ struct Sizes {
 }
 
 // Which fit is called, and what is lent to it beside the slices.
-#[derive(Drop)]
+#[derive(Clone, Copy)]
 struct Scalars {
     mode: u8,
     settings: Settings,

@@ -5,7 +5,7 @@ ghost use Rattle.std.specs.Prelude.{◌≡◌, ◌+◌, ◌<◌, ◌≤◌, leng
 
 use listing::LISTING;
 
-#[derive(Drop)]
+#[derive(Clone, Copy)]
 struct Tally {
     files: u64,
     fits: u64,
@@ -152,7 +152,7 @@ fn read_base(file: &mut [u8], x: usize)
 }
 
 // The base has n bytes from now on.
-#[derive(Drop)]
+#[derive(Clone, Copy)]
 struct Step {
     n: usize,
     tally: Tally,

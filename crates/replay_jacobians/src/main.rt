@@ -6,7 +6,7 @@ ghost use Rattle.std.specs.Prelude.{◌≡◌, ◌+◌, ◌*◌, ◌<◌, ◌≤
 use observation::Pair;
 use terms::answer::Jacobian;
 
-#[derive(Drop)]
+#[derive(Clone, Copy)]
 struct Tally {
     blocks: u64,
     pairs: u64,
@@ -16,7 +16,7 @@ struct Tally {
 }
 
 // What a block lends beside its sheet.
-#[derive(Drop)]
+#[derive(Clone, Copy)]
 struct Place {
     sin_lat: f64,
     cos_lat: f64,

@@ -5,7 +5,7 @@ ghost use Rattle.std.specs.Prelude.{◌≡◌, ◌≤◌, length};
 
 use model::{Breakdown, Changed, Correction, PointingModel};
 
-#[derive(Drop)]
+#[derive(Clone, Copy)]
 struct Tally {
     calls: u64,
     models: u64,
@@ -18,14 +18,14 @@ struct Tally {
 }
 
 // The current model and the counts.
-#[derive(Drop)]
+#[derive(Clone, Copy)]
 struct Step {
     tally: Tally,
     model: PointingModel,
 }
 
 // What a correction is lent beside its sheet.
-#[derive(Drop)]
+#[derive(Clone, Copy)]
 struct Place {
     sin_lat: f64,
     cos_lat: f64,

@@ -7,7 +7,7 @@ use equatorial::EquatorialTerm;
 use harmonic::{Components, Coordinate, HarmonicComponent, ResultType, TrigFunc};
 use terms::{Reading, Term, TermKind};
 
-#[derive(Drop)]
+#[derive(Clone, Copy)]
 struct Tally {
     names: u64,
     read: u64,
@@ -20,7 +20,7 @@ struct Tally {
 }
 
 // A kind and TXN's number.
-#[derive(Drop)]
+#[derive(Clone, Copy)]
 struct Kind {
     code: u8,
     number: u8,

@@ -10,7 +10,7 @@ use limits::MAX_TERMS;
 use linalg::SolveOutcome;
 use replay::{Held, hold, read_doubles};
 
-#[derive(Drop)]
+#[derive(Clone, Copy)]
 struct Tally {
     solves: u64,
     damped: u64,
@@ -21,7 +21,7 @@ struct Tally {
 }
 
 // The head of a record.
-#[derive(Drop)]
+#[derive(Clone, Copy)]
 struct Head {
     rows: usize,
     m: usize,

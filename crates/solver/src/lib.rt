@@ -4,7 +4,7 @@ ghost use Rattle.std.specs.Prelude.{◌≡◌};
 ghost use Rattle.solver.specs.Records.{deficient, condition_number, defaults};
 
 // What a fit is given as numbers: sine and cosine of the latitude, and the tolerance of the solver.
-#[derive(Drop)]
+#[derive(Clone, Copy)]
 pub struct Settings {
     pub sin_lat: f64,
     pub cos_lat: f64,
@@ -12,14 +12,14 @@ pub struct Settings {
 }
 
 // What sigma's sum of squares is counted over: the stars, as in the Rust, or the rows, two a star.
-#[derive(Drop)]
+#[derive(Clone, Copy)]
 pub enum SigmaBy {
     Stars,
     Rows,
 }
 
 // How many numbers the buffers of a fit have room for.
-#[derive(Drop)]
+#[derive(Clone, Copy)]
 pub struct Sizes {
     pub coefficients: usize,
     pub change: usize,
@@ -29,7 +29,7 @@ pub struct Sizes {
 }
 
 // What the solver found of the free terms' columns.
-#[derive(Drop)]
+#[derive(Clone, Copy)]
 pub struct RankInfo {
     pub n_free: usize,
     pub rank: usize,
@@ -55,7 +55,7 @@ impl RankInfo {
     }
 }
 
-#[derive(Drop)]
+#[derive(Clone, Copy)]
 pub struct IterReport {
     pub iterations: usize,
     pub converged: bool,
@@ -64,7 +64,7 @@ pub struct IterReport {
 }
 
 #[repr(C)]
-#[derive(Drop)]
+#[derive(Clone, Copy)]
 pub struct IterOptions {
     pub max_iter: usize,
     pub tol_rad: f64,
@@ -92,7 +92,7 @@ impl IterOptions {
 }
 
 // Of one star: the size of its residual on the sky, its leverage, and the residual in units of its own uncertainty.
-#[derive(Drop)]
+#[derive(Clone, Copy)]
 pub struct ObsDiagnostic {
     pub residual_sky: f64,
     pub leverage: f64,
@@ -101,7 +101,7 @@ pub struct ObsDiagnostic {
 
 // What a fit answers beside the coefficients, their change and sigma, and the diagnostics, which lie in lent buffers. Beside the Rust's record: how many
 // sweeps the last undamped solve made, the one without a turn included, and whether the last of them had none.
-#[derive(Drop)]
+#[derive(Clone, Copy)]
 pub struct FitResult {
     pub sky_rms: f64,
     pub popn_sd: f64,
@@ -112,7 +112,7 @@ pub struct FitResult {
 }
 
 // A whole fit, or the number of the question that refused it.
-#[derive(Drop)]
+#[derive(Clone, Copy)]
 pub enum Fit {
     Done(FitResult),
     Refused(u8),

@@ -4,14 +4,14 @@ ghost use Rattle.std.specs.Prelude.{◌≡◌, [], ◌+◌, ◌*◌, ◌≤◌, 
 ghost use Rattle.limits.specs.Limits.{max_terms, max_stars, sheet_numbers};
 ghost use Rattle.design.specs.Design.{sights_at, scattered};
 ghost use Rattle.design.specs.Counted.{Below};
-ghost use Rattle.stats.specs.Stats.{degrees as degreesOf, sum_sq_sky, rms_of, sd_of, sky_of_sum, divisor as divisor_of, variance as varianceOf, sigma_at};
-ghost use Rattle.stats.specs.Stats.{clamped as clampedOf, studentized_row, diagnostic as diagnostic_of};
+ghost use Rattle.stats.specs.Stats.{degrees as degrees_of, sum_sq_sky, rms_of, sd_of, sky_of_sum, divisor as divisor_of, variance as variance_of, sigma_at};
+ghost use Rattle.stats.specs.Stats.{clamped as clamped_of, studentized_row, diagnostic as diagnostic_of};
 
 use limits::MAX_TERMS;
 use solver::{ObsDiagnostic, SigmaBy};
 
 // What is left on the sky.
-#[derive(Drop)]
+#[derive(Clone, Copy)]
 pub struct Sky {
     pub rms: f64,
     pub popn_sd: f64,
@@ -63,7 +63,7 @@ pub fn sky_of_sum(sum: f64, n: usize, n_free: usize) -> Sky
 
 // n less k, and at least 1.
 pub fn degrees(n: usize, k: usize) -> usize
-    ensures value { result ≡ degreesOf n k }
+    ensures value { result ≡ degrees_of n k }
     ensures bound { result ≤ n + 1 }
 {
     if n <= k {
@@ -87,7 +87,7 @@ pub fn divisor(by: SigmaBy, n: usize, rank: usize) -> usize
 // The residuals' squares over a divisor.
 pub fn variance(r: &[f64], dof: usize) -> f64
     requires { dof ≤ 2 * max_stars + 1 }
-    ensures { result ≡ varianceOf r.now dof }
+    ensures { result ≡ variance_of r.now dof }
 {
     sequence::sum_squares(r) / dof as f64
 }
@@ -104,7 +104,7 @@ pub fn compute_sigma(free: &[u16], s2: f64, cov_diag: &[f64; MAX_TERMS], sigma: 
 }
 
 fn clamped(x: f64) -> f64
-    ensures { result ≡ clampedOf x }
+    ensures { result ≡ clamped_of x }
 {
     if x < 0.0 {
         return 0.0;

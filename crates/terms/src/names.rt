@@ -16,7 +16,7 @@ use harmonic::{Components, no_components};
 use limits::SLOT;
 
 // What a name in capitals is, if it is one of the fixed names.
-#[derive(Drop)]
+#[derive(Clone, Copy)]
 pub enum Known {
     Equatorial(EquatorialTerm),
     AltAz,
@@ -24,7 +24,7 @@ pub enum Known {
 }
 
 // A number, where its digits are well formed.
-#[derive(Drop)]
+#[derive(Clone, Copy)]
 pub enum NumberRead {
     Value(usize),
     Malformed,

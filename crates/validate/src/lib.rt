@@ -14,7 +14,7 @@ use limits::{MAX_STARS, MAX_TERMS, SHEET, SLOT};
 use solver::{IterOptions, Settings, Sizes};
 
 // All questions passed, or the number of the first no.
-#[derive(Drop)]
+#[derive(Clone, Copy)]
 pub enum Asked {
     Pass,
     No(u8),

@@ -1,0 +1,63 @@
+use Prim.Native.Nat.{ℕ, ◌+◌, ◌*◌}
+use native.Mathlib.Omega.{arith}
+use mathlib.Core.Path.{◌≡◌, refl, ap, ◌∙◌}
+use mathlib.Core.Bool.{false}
+use mathlib.Core.Logic.{inl}
+use mathlib.Core.List.{List}
+use lib.ListN.{length, replicate}
+use lib.Ieee.{Float}
+use Rattle.float.specs.Float.{#0, ◌⊕◌, ◌⊗◌}
+use Rattle.solver.specs.declared.Settings.{Settings}
+use Rattle.sequence.specs.Sequence.{at, each}
+use Rattle.sequence.proofs.Only.{only_none, only_wider, only_then, back-only}
+use Rattle.design.specs.Design.{Star, term_at, sky_column, plus, weighing, weighed_at, extracted, product}
+use Rattle.design.proofs.Terms.{combines, zeroed, step, turned_none, turned-next, turned-end}
+use Rattle.design.proofs.free_product.Invariants.{term}
+use Rattle.design.proofs.free_product.Goals as goal
+
+-- the loop's end, where the residuals are those at entry and the sums began as zeros
+done : (k : Float) (x : List Float) (s : Settings) (ss : List Star) (names free : List ℕ) (n : ℕ) (v b₀ b p : List Float)
+    → v ≡ each (length free) 0 (step (λ y. false) plus (at x) (λ t. weighing k b₀ (sky_column s ss t)) (term names free)) p
+    → b₀ ≡ b → p ≡ replicate n #0 → v ≡ product n (length free) (at x) (extracted free (weighed_at k b s ss names))
+unfolding product
+done k x s ss names free n v b₀ b p e same z = rw (same, z) at e
+
+pub loop-i-init : goal.loop-i-init
+loop-i-init c = (turned_none, only_none 0 _ _, omega arith)
+
+pub term_at-t-requires : goal.term_at-t-requires
+term_at-t-requires c = rw c.index.ensures (c.requires.2 c.loop-i.i (omega arith))
+
+pub weighed_column-requires : goal.weighed_column-requires
+weighed_column-requires c = record { used_value = c.requires.used_value; seen = (inl (omega arith), omega arith, omega arith) }
+
+pub add_scaled-requires : goal.add_scaled-requires
+add_scaled-requires c = (omega arith, omega arith)
+
+pub overflow_step-i : goal.overflow_step-i
+overflow_step-i c = omega (arith, c.requires.seen)
+
+pub loop-i-preserved : goal.loop-i-preserved
+loop-i-preserved c =
+    let u = c.loop-i in
+    let a = c.args in
+    let n = length a.used.now in
+    let e = c.weighed_column.ensures in
+    let same = u.invariant.1.above (6 * n) (2 * n) (omega arith) in
+    let p = combines (λ y x. y ⊕ x ⊗ at a.x.now u.i) u.v _ _ _ (2 * n) (omega (arith, u.invariant.2)) e.0 e.1 c.add_scaled.ensures in
+    let is = c.term_at-t.ensures ∙ ap (term_at a.names.now) c.index.ensures in (
+      turned-next u.invariant.0 _ _ (omega arith) refl p.1.long is (rw same at p.0),
+      only_then 0 (4 * n) _ u.v _ u.invariant.1
+          (only_wider 0 (2 * n + 2 * n) 0 (4 * n) u.v _ (omega arith) (omega arith) p.1),
+      p.1.long ∙ u.invariant.2,
+    )
+
+pub returns : goal.returns
+returns c =
+    let u = c.loop-i in
+    let a = c.args in
+    let n = length a.used.now in
+    let z = zeroed a.v.now c.fill.new.0 (2 * n) (2 * n + 2 * n) refl (omega arith) c.fill.ensures in
+    let only = back-only a.v.now c.fill.new.0 (2 * n) (2 * n) (omega arith) c.fill.auto.0 in
+    let same = only.above (6 * n) (2 * n) (omega arith) in record { filled = done a.k a.x.now a.s _ a.names.now a.free.now (2 * n) _ _ _ _ (turned-end u.invariant.0 (omega arith)) same z; only = (only_then 0 (4 * n) a.v.now _ u.v (only_wider (2 * n) (2 * n) 0 (4 * n) a.v.now _ (omega arith) (omega arith) only)
+          u.invariant.1, ) }

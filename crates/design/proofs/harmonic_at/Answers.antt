@@ -1,0 +1,10 @@
+-- `design::harmonic_at` meets its contract. Assumes nothing.
+use Prim.Native.Nat.{◌*◌}
+use native.Mathlib.Nat.{add-sub_cancel_left}
+use Rattle.design.proofs.harmonic_at.Goals as goal
+
+pub returns : goal.returns
+returns c =
+    let i = c.args.i in
+    rw (← c.from_code.ensures, ← c.sign-sign.ensures)
+    (rw (add-sub_cancel_left (37 * i) 37) at c.harmonic_jacobian.ensures)

@@ -1,0 +1,10 @@
+-- `exports::point::correction_answer` meets its contract. Assumes nothing.
+use mathlib.Core.Path.{ap, sym, ◌∙◌}
+use Rattle.exports.specs.Point.{correction_answer}
+use Rattle.exports.proofs.point.correction_answer.Goals as goal
+
+pub returns-in-Given : goal.returns-in-Given
+returns-in-Given c = c.given_pair.ensures ∙ ap correction_answer (sym c.c-1.given.1)
+
+pub returns-in-Refused : goal.returns-in-Refused
+returns-in-Refused c = c.refused_pair.ensures ∙ ap correction_answer (sym c.c-in-Refused-1.given.1)

@@ -1,0 +1,61 @@
+use mathlib.Core.Path.{refl, sym, ◌∙◌}
+use mathlib.Core.Logic.{⊎_elim}
+use borrow.Author.Tests.{not-true, not-false}
+use native.Mathlib.Omega.{arith}
+use Rattle.sequence.proofs.Fills.{each-zero, each_step}
+use Rattle.jacobi.specs.Jacobi.{sweeps}
+use Rattle.jacobi.proofs.Laws.{pair-still, row_done, sweep_done, sweeps-on, sweeps-still, sweeps-none}
+use Rattle.jacobi.proofs.factorise.Goals as goal
+
+pub sweeps-init : goal.sweeps-init
+sweeps-init c = (omega arith, refl, refl, refl)
+
+pub loop-p-init : goal.loop-p-init
+loop-p-init c = (omega arith, refl, each-zero 0 _ _)
+
+pub loop-q-init : goal.loop-q-init
+loop-q-init c = (omega arith, omega arith, refl, c.pair_sums-a.ensures, each-zero _ _ _)
+
+pub turn_pair-a-requires : goal.turn_pair-a-requires
+turn_pair-a-requires c =
+    let u = c.loop-q in
+    (omega arith, omega arith, omega arith, omega arith, u.invariant.3 (omega arith), sym c.turns.ensures ∙ c.if-turns.true)
+
+pub loop-q-preserved : goal.loop-q-preserved
+loop-q-preserved c =
+    let u = c.loop-q in
+    let own = u.invariant.3 (omega arith) in
+    ⊎_elim
+    (λ d.
+    let turned = d.2.ensures.0 in
+    let next = d.2.ensures.1 in
+    rw (d.5, d.6, d.7) (omega arith, omega arith, omega arith, next, turned _ ∙ each_step _ _ _ _ _ (omega arith) u.invariant.4))
+    (λ d.
+    let still = pair-still _ _ _ _ _ _ _ own (sym c.turns.ensures ∙ d.0.left) _ in
+    rw (d.3, d.4, d.5) (omega arith, omega arith, omega arith, d.2.ensures, still ∙ each_step _ _ _ _ _ (omega arith) u.invariant.4))
+    c.if-turns.branch
+
+pub loop-p-preserved : goal.loop-p-preserved
+loop-p-preserved c =
+    let u = c.loop-q in
+    let w = c.loop-p in
+    (omega arith, omega arith, row_done _ _ _ _ _ _ _ (omega arith) u.invariant.4 ∙ each_step 0 _ _ _ _ (omega arith) w.invariant.2)
+
+pub sweeps-preserved : goal.sweeps-preserved
+sweeps-preserved c =
+    let u = c.loop-p in
+    let w = c.sweeps in
+    let done = sweep_done _ _ _ _ _ _ _ _ (omega arith) (not-false _ c.if-not-turned.false-raw) u.invariant.2 in
+    (omega arith, omega arith, w.invariant.2, sweeps-on _ _ _ _ _ _ _ (omega arith) done w.invariant.3)
+
+pub returns-after-sweeps : goal.returns-after-sweeps
+returns-after-sweeps c =
+    let w = c.sweeps in
+    rw w.invariant.2 (sweeps-none _ _ _ _ _ _ (omega arith) w.invariant.3)
+
+pub returns-then-not-turned : goal.returns-then-not-turned
+returns-then-not-turned c =
+    let u = c.loop-p in
+    let w = c.sweeps in
+    let done = sweep_done _ _ _ _ _ _ _ _ (omega arith) (not-true _ c.if-not-turned.true-raw) u.invariant.2 in
+    sweeps-still _ _ _ _ _ _ _ (omega arith) done w.invariant.3

@@ -1,0 +1,19 @@
+use native.Mathlib.Omega.{arith}
+use mathlib.Core.Path.{refl, ◌∙◌}
+use Rattle.sequence.proofs.Fills.{filled_none, stored, filled-end, filled-all}
+use Rattle.listing.specs.Text.{hexadecimal}
+use Rattle.listing.proofs.hex_digits.Goals as goal
+
+pub loop-i-init : goal.loop-i-init
+loop-i-init c = (omega arith, refl, filled_none _ _)
+
+pub loop-i-preserved : goal.loop-i-preserved
+loop-i-preserved c =
+    let l = c.loop-i in
+    (omega arith, refl, stored _ l.i _ l.text _ (omega arith) l.invariant.2 c.digit_of.ensures)
+
+pub returns : goal.returns
+unfolding hexadecimal
+returns c =
+    let l = c.loop-i in
+    filled-end _ l.i 16 _ _ (omega arith) (omega arith) l.invariant.2 ∙ filled-all _ 16 _ (omega arith)

@@ -1,0 +1,19 @@
+-- `lm_system::move_free` meets its contract. The invariant: the first i free terms have moved. Assumes nothing.
+use Prim.Native.Nat.{ℕ, ◌-◌, ◌≤◌}
+use mathlib.Core.Path.{◌≡◌}
+use mathlib.Core.List.{List}
+use lib.ListN.{length, get_or, set}
+use lib.Ieee.{Float}
+use Rattle.float.specs.Float.{◌⊕◌}
+use Rattle.sequence.specs.Sequence.{at, each}
+use Rattle.lm_system.proofs.move_free.Given as goal
+
+-- the turn of free term i
+abbrev pub turn : List ℕ → List Float → ℕ → List Float → List Float
+turn free x i t = set t (get_or free i 0) (at t (get_or free i 0) ⊕ at x i)
+
+abbrev pub invariant-loop-i : goal.invariant-loop-i
+invariant-loop-i l = (l.i ≤ l.i-end) × (length l.set ≡ length l.initial.set) × (l.set ≡ each l.i 0 (turn l.free l.x) l.initial.set)
+
+abbrev pub decreases-loop-i : goal.decreases-loop-i
+decreases-loop-i l = l.i-end - l.i

@@ -1,0 +1,45 @@
+use native.Mathlib.Nat.{add-sub_cancel_left}
+use native.Mathlib.Omega.{arith}
+use mathlib.Core.Path.{◌≡◌, sym, ◌∙◌, ap}
+use mathlib.Core.Bool.{false}
+use borrow.Author.Rules.{rules}
+use lib.ListN.{length}
+use Rattle.sequence.proofs.Tests.{some-none, some-step, some-stop, some_end}
+use Rattle.terms.specs.Names.{same}
+use Rattle.terms.specs.declared.Reading.{Reading}
+use Rattle.terms.specs.Slots.{slot}
+use Rattle.model.proofs.slots.has_name.Invariants.{held}
+use Rattle.model.proofs.slots.has_name.Goals as goal
+use Rattle.model.proofs.slots.has_name.Goals.{After-same_bytes}
+
+-- what the slot that is read says
+here : (c : After-same_bytes) → c.same_bytes.result
+    ≡ held c.args.names.now
+    c.args.stored.now c.loop-i.i
+here c =
+    c.same_bytes.ensures
+    ∙ ap (λ (r : Reading). same r.term.name c.args.stored.now)
+    (rw add-sub_cancel_left at c.read_term-reading.ensures)
+
+pub loop-i-init : goal.loop-i-init
+loop-i-init c = (omega arith, some-none _)
+
+pub same_bytes-requires : goal.same_bytes-requires
+same_bytes-requires c =
+    let sixteen : length c.read_term-reading.result.term.name ≡ 16 = search rules in
+    sixteen ∙ sym c.requires.1
+
+pub returns-then-same_bytes : goal.returns-then-same_bytes
+returns-then-same_bytes c =
+    let l = c.loop-i in
+    some-stop _ l.i _ (omega arith) (sym (here c.before) ∙ c.if-same_bytes.true)
+
+pub loop-i-preserved : goal.loop-i-preserved
+loop-i-preserved c =
+    let l = c.loop-i in
+    (omega arith, some-step _ l.i l.invariant.1 (sym (here c.before) ∙ c.if-same_bytes.false))
+
+pub returns : goal.returns
+returns c =
+    let l = c.loop-i in
+    some_end _ l.i _ (omega arith) (omega arith) l.invariant.1

@@ -1,0 +1,18 @@
+use mathlib.Core.Path.{refl}
+use native.Mathlib.Omega.{arith}
+use Rattle.replay_files.proofs.records.Goals as goal
+
+pub head-head-requires : goal.head-head-requires
+head-head-requires c = tt
+
+pub loop-turns-init : goal.loop-turns-init
+loop-turns-init c = (refl, omega arith)
+
+pub head-head-requires-in-loop-turns : goal.head-head-requires-in-loop-turns
+head-head-requires-in-loop-turns c = tt
+
+pub ended-requires : goal.ended-requires
+ended-requires c = tt
+
+pub returns : goal.returns
+returns c = tt

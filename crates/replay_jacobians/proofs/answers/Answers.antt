@@ -1,0 +1,4 @@
+use Rattle.replay_jacobians.proofs.answers.Goals as goal
+
+pub returns : goal.returns
+returns c = tt

@@ -1,7 +1,0 @@
--- `terms::names::accept` meets its contract. Assumes nothing.
-use borrow.Author.Rules.{rules}
-use Rattle.terms.proofs.names.accept.Statement.{statement}
-use Rattle.terms.proofs.names.accept.Tie as tie
-
-pub accept_spec : {M : Type 1} → statement M
-accept_spec = tie.close (tie.spec (λ c κs. search rules) (λ c. rw c.pier-sensitive.ensures))

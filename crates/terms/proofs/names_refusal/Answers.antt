@@ -1,0 +1,31 @@
+use native.Mathlib.Nat.{add-sub_cancel_left}
+use mathlib.Core.Path.{◌≡◌, ap}
+use Rattle.terms.specs.declared.Reading.{Reading}
+use Rattle.terms.specs.Slots.{slot}
+use Rattle.terms.proofs.First.{first-none, first_step, first-stop, first-end}
+use native.Mathlib.Omega.{arith}
+use Rattle.terms.proofs.names_refusal.Invariants.{numbers}
+use Rattle.terms.proofs.names_refusal.Goals as goal
+use Rattle.terms.proofs.names_refusal.Goals.{After-read_term-r}
+
+-- the refusal of the slot that is read
+here : (c : After-read_term-r) → c.read_term-r.result.refusal ≡ numbers c.args.names.now c.loop-i.i
+here c = ap (λ (r : Reading). r.refusal) (rw add-sub_cancel_left at c.read_term-r.ensures)
+
+pub loop-i-init : goal.loop-i-init
+loop-i-init c = (omega arith, first-none _)
+
+pub returns-then-r-ne0 : goal.returns-then-r-ne0
+returns-then-r-ne0 c =
+    let l = c.loop-i in
+    first-stop _ l.i _ _ (omega arith) l.invariant.1 (here c.before.before) c.if-r-ne0.true
+
+pub loop-i-preserved : goal.loop-i-preserved
+loop-i-preserved c =
+    let l = c.loop-i in
+    (omega arith, first_step _ l.i _ l.invariant.1 (here c.before.before) c.if-r-ne0.false)
+
+pub returns : goal.returns
+returns c =
+    let l = c.loop-i in
+    first-end _ l.i _ (omega arith) (omega arith) l.invariant.1
