@@ -1,4 +1,5 @@
 // Numbers and floats read from bytes, the lowest byte first.
+#![tactic(auto)]
 
 ghost use Rattle.std.specs.Prelude.{◌≡◌, ◌+◌, ◌*◌, ◌≤◌, ◌<◌, length};
 ghost use Rattle.little_endian.specs.LittleEndian.{number_at, float_at};

@@ -1,5 +1,6 @@
 // What the terms read of one observation: the side of the pier, and the lent sheet of sines and cosines.
 // After observation.rs.
+#![tactic(auto)]
 
 ghost use Rattle.std.specs.Prelude.{◌≡◌};
 ghost use Rattle.sequence.specs.Sequence.{at};
