@@ -28,9 +28,9 @@ module _ {A : Type 0} (score : A → Float) where
   NoneBelow c [] = Unit {0}
   NoneBelow c (x ∷ xs) = T (not (lt (score x) c)) × NoneBelow c xs
 
-  pub none_below : (c : Float) (xs : List A) (x : A) → NoneBelow c xs → Memᴰ x xs → T (not (lt (score x) c))
-  none_below c xs x h (Memᴰ.head {x = y} e) = subst (λ (z : A). T (not (lt (score z) c))) (sym e) h.0
-  none_below c xs x h (Memᴰ.tail {xs = ys} m) = none_below c ys x h.1 m
+  pub none_below : (c : Float) (x : A) (xs : List A) → NoneBelow c xs → Memᴰ x xs → T (not (lt (score x) c))
+  none_below c x xs h (Memᴰ.head {x = y} e) = subst (λ (z : A). T (not (lt (score z) c))) (sym e) h.0
+  none_below c x xs h (Memᴰ.tail {xs = ys} m) = none_below c x ys h.1 m
 
   lower : (b c : Float) (xs : List A) → Under b c → NoneBelow c xs → NoneBelow b xs
   lower b c [] u h = tt

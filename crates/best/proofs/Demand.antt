@@ -22,7 +22,7 @@ module _ {L A : Type 0} (p : Trials L A) (Ok : L → Type 0) (rule : Keeps p Ok)
   computed k s ok x m =
       let r = answer p k s in
       let scores : T (not (lt (p.score x) (p.score r))) =
-      none_below p.score (p.score r) (tried p k s) x (answer-best p Ok rule k s ok) m in
+      none_below p.score (p.score r) x (tried p k s) (answer-best p Ok rule k s ok) m in
       rw (is x, is r) at scores
 
   pub demand3 : (k : ℕ) (s : L) → Ok s → (x : A) → Memᴰ x (tried p k s)

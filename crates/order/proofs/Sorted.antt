@@ -92,7 +92,7 @@ module _ (σ : List Float) where
       let x = at σ (get_or left b 0) in
       let y = at σ (get_or left (suc n) 0) in
       let step : (t : Bool) → lt x y ≡ t → lt (at σ (get_or left (cond t (suc n) b) 0)) (at σ (get_or left k 0)) ≡ false =
-      λ t. elim t [
+      λ t. elim t as (λ q. lt x y ≡ q → lt (at σ (get_or left (cond q (suc n) b) 0)) (at σ (get_or left k 0)) ≡ false) [
         | true ↦ λ e. ⊎_elim (λ q. rw q (not_below_itself y)) (λ l. not_above x y (at σ (get_or left k 0)) e (greatest left n k (omega arith))) (eq-or-lt_of_le h)
         | false ↦ λ e. ⊎_elim (λ q. rw q e) (λ l. greatest left n k (omega arith)) (eq-or-lt_of_le h)
       ] in

@@ -1,5 +1,4 @@
 use mathlib.Core.Path.{◌≡◌, refl}
-use mathlib.Core.Logic.{⊎_elim}
 use mathlib.Core.Bool.{cond}
 use Prim.Native.Nat.{◌≤◌, ◌<◌, ◌+◌}
 use native.Mathlib.Omega.{arith}
@@ -8,6 +7,7 @@ use lib.Ieee.{lt}
 use Rattle.sequence.specs.Sequence.{at}
 use Rattle.order.proofs.Laws.{best-zero, best-step}
 use Rattle.order.proofs.All.{all_get_d}
+use Rattle.order.proofs.best.Goals.{then-s-o, else-s-o}
 use Rattle.order.proofs.best.Goals as goal
 
 pub loop-i-init : goal.loop-i-init
@@ -30,9 +30,12 @@ loop-i-preserved c =
     let u = c.loop-i in
     let a = c.args in
     let t = lt (at a.s.now (get_or a.o.now u.b 0)) (at a.s.now (get_or a.o.now u.i 0)) in
-    let f : c.if-s-o.b ≡ cond t u.i u.b = ⊎_elim (λ w. rw w.0.taken w.1) (λ w. rw w.0.left w.1) c.if-s-o.branch in
-    let lo : a.k ≤ c.if-s-o.b = ⊎_elim (λ w. omega (arith, w.1)) (λ w. omega (arith, w.1)) c.if-s-o.branch in
-    let hi : c.if-s-o.b < u.i + 1 = ⊎_elim (λ w. omega (arith, w.1)) (λ w. omega (arith, w.1)) c.if-s-o.branch in
+    let f : c.if-s-o.b ≡ cond t u.i u.b = elim c.if-s-o.branch [
+      | then-s-o w ↦ rw w.if-s-o.true w.b-is
+      | else-s-o w ↦ rw w.if-s-o.false w.b-is
+    ] in
+    let lo : a.k ≤ c.if-s-o.b = elim c.if-s-o.branch [ then-s-o w ↦ omega (arith, w.b-is) | else-s-o w ↦ omega (arith, w.b-is) ] in
+    let hi : c.if-s-o.b < u.i + 1 = elim c.if-s-o.branch [ then-s-o w ↦ omega (arith, w.b-is) | else-s-o w ↦ omega (arith, w.b-is) ] in
     (refl, omega arith, omega arith, lo, hi, best-step a.s.now a.o.now a.k u.i u.b c.if-s-o.b (omega arith) u.invariant.5 f)
 
 pub returns : goal.returns

@@ -1,7 +1,7 @@
 -- `order::order` meets its contract. The columns taken so far, and the order of those left, are the order of all. Assumes nothing.
 use mathlib.Core.Path.{◌≡◌}
 use mathlib.Core.List.{◌++◌}
-use Prim.Native.Nat.{◌≤◌, ◌-◌, ◌+◌}
+use Prim.Native.Nat.{◌≤◌, ◌-◌}
 use lib.ListN.{length, take, drop}
 use Rattle.sequence.specs.Sequence.{filled}
 use Rattle.order.specs.Order.{order, ordered, AllBelow}
