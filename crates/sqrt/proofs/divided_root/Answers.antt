@@ -11,7 +11,7 @@ abbrev u_of : ℕ → ℕ → ℕ
 u_of a s = (a - s * s) * 2 ^ 25 % s
 
 parts : (c : goal.After-whole_root-s) → Split c.args.a c.whole_root-s.result (d_of c.args.a c.whole_root-s.result) (u_of c.args.a c.whole_root-s.result)
-parts c = split c.args.a c.whole_root-s.result c.requires.0 (omega arith) c.whole_root-s.ensures
+parts c = split c.args.a c.whole_root-s.result c.requires.0 (omega arith) (c.whole_root-s.ensures.below, c.whole_root-s.ensures.above)
 
 pub overflow_mul-w-2 : goal.overflow_mul-w-2
 overflow_mul-w-2 c = omega (arith, parts c)

@@ -11,8 +11,8 @@ record Shifted (m odd : ℕ) : Type 0 where
   pub least : 2 ^ 52 ≤ m * 2 ^ odd
   pub most : m * 2 ^ odd ≤ 2 ^ 54 - 2
 
-shifted : (c : goal.Start) → Shifted c.args.m c.args.odd
-shifted c = let b = doubled c.args.m c.args.odd c.requires.2 in record { exact = omega arith; least = omega arith; most = omega arith }
+shifted : (m odd : ℕ) → (2 ^ 52 ≤ m) × (m < 2 ^ 53) × (odd < 2) → Shifted m odd
+shifted m odd h = let b = doubled m odd h.2 in record { exact = omega arith; least = omega arith; most = omega arith }
 
 abbrev k_of : ℕ → ℕ
 k_of odd = 0x80000000 + odd * 0x3504f334
@@ -45,7 +45,7 @@ pub overflow_mul-s-2 : goal.overflow_mul-s-2
 overflow_mul-s-2 c = omega (arith, x-k-y c.args.m c.args.odd c.inverse_root-y.result c.requires.1 c.requires.2 c.inverse_root-y.ensures)
 
 pub overflow_mul-a : goal.overflow_mul-a
-overflow_mul-a c = let h = shifted c.before in omega arith
+overflow_mul-a c = let h = shifted c.args.m c.args.odd c.requires in omega arith
 
 pub overflow_mul-s-3 : goal.overflow_mul-s-3
 overflow_mul-s-3 c = omega (arith, s_s (c.args.m / 2 ^ 21 * k_of c.args.odd / 2 ^ 32 * c.inverse_root-y.result / 2 ^ 31))
@@ -70,16 +70,16 @@ certified-r-requires c =
     let y = c.inverse_root-y.result in
     let odd = c.args.odd in
     let z = o_z (c.wrapping_sub_u64.result / 2 ^ 5) (y * (k_of odd / 2 ^ odd) / 2 ^ 31) in
-    let h = shifted c.before.before in
+    let h = shifted c.args.m c.args.odd c.requires in
     (omega arith, omega arith, omega arith, omega arith)
 
 pub divided_root-requires : goal.divided_root-requires
-divided_root-requires c = let h = shifted c.before.before.before.before in omega arith
+divided_root-requires c = let h = shifted c.args.m c.args.odd c.requires in omega arith
 
 pub returns-then-r-eq0 : goal.returns-then-r-eq0
-returns-then-r-eq0 c = subst (λ (a : ℕ). IsRoot (a * 2 ^ 52) c.divided_root.result) (shifted c.before.before.before.before.before).exact c.divided_root.ensures
+returns-then-r-eq0 c = subst (λ (a : ℕ). IsRoot (a * 2 ^ 52) c.divided_root.result) (shifted c.args.m c.args.odd c.requires).exact c.divided_root.ensures
 
 pub returns-else-r-eq0 : goal.returns-else-r-eq0
 returns-else-r-eq0 c =
-    subst (λ (a : ℕ). IsRoot (a * 2 ^ 52) c.certified-r.result) (shifted c.before.before.before.before).exact
+    subst (λ (a : ℕ). IsRoot (a * 2 ^ 52) c.certified-r.result) (shifted c.args.m c.args.odd c.requires).exact
     (⊎_elim (λ z. absurd (c.if-r-eq0.false z)) (λ h. h) c.certified-r.ensures)
