@@ -14,9 +14,10 @@ import sys
 WORDS = {"length", "take", "drop", "map", "append", "replicate", "foldl", "cond", "set", "sets", "zip", "eq", "lt", "le", "zero", "table", "part", "get_or", "suc",
          "snoc", "filled", "zip_with", "sqrt", "isqrt"}
 DECLARED = re.compile(r"(?m)^((?:(?:abbrev|unfoldable|pub|data|record|ruleset) +)*)([^\s:(){}\[\].,;]+) *:(?!\S)")
+INNER = re.compile(r"(?m)^ +pub ([^\s:(){}\[\].,;=]+) *:(?!\S)")
 MEMBER = re.compile(r"(?m)^ +(?:pub )?([^\s:(){}\[\].,;=]+) *:(?!\S) *(?!tie\.)")
 # lemmas that would have the name of the definition they are about, by the crate
-LEMMAS = {("best", "units_of"): "units_of_lem", ("harmonic", "is_digit"): "is_digit_lem", ("linalg", "in_order"): "in_order_lem", ("pmf", "room-sizes"): "room_sizes_lem",
+LEMMAS = {("best", "units_of"): "units_of_lem", ("harmonic", "is_digit"): "is_digit_lem", ("linalg", "in_order"): "in_order_lem", ("pmf", "room-sizes"): "room_sizes_lem", ("pmf", "fit-text"): "fit_text_lem",
           ("float", "is-nan"): "is_nan_lem"}
 # definitions that would have the name of a field that they are about
 DEFINITIONS = {"huberK": "huber_k_of", "pierSensitive": "pier_sensitive_of"}
@@ -48,6 +49,8 @@ def declared():
                 names.add(name)
                 if "/specs/" in f:
                     definitions.add(name)
+        if not f.endswith(("Proof.antt", "Answers.antt")):
+            names.update(INNER.findall(text))
         for block in re.findall(r"(?m)^pub (?:record|data) .*\n(?:[ ].*\n|\n)+|^(?:record|data) .*\n(?:[ ].*\n|\n)+", text):
             names.update(MEMBER.findall(block))
     return names, definitions
@@ -73,6 +76,8 @@ def main():
     names, definitions = declared()
     turned = {n: DEFINITIONS.get(n) or respelled(n, definitions) for n in names}
     turned = {n: t for n, t in turned.items() if n != t}
+    if not turned:
+        return 0
     pattern = re.compile(f"(?<!{EDGE})(" + "|".join(re.escape(n) for n in sorted(turned, key=len, reverse=True)) + f")(?!{EDGE})")
     word = re.compile(EDGE + "+")
     written, bad = {}, 0
@@ -128,13 +133,22 @@ def main():
             out = re.sub(rf"\b{name}\b", "single_step_case" if name == "singleStep" else snake(name), out)
         if out != text:
             open(f, "w", encoding="utf-8").write(out)
+    there = declared()[0]
+
+    def cited(m):
+        name = m[1]
+        new = turned.get(name) or re.sub(r"^_(.+)_$", r"◌\1◌", snake(name).replace("-", "_") if re.match("[a-z]", name) else name)
+        return f"`{new}`" if name not in there and new in there else m[0]
+
     for f in glob.glob("docs/*.md") + ["README.md", "oracle/README.md", "host/README.md"]:
         text = open(f, encoding="utf-8").read()
-        out = re.sub(r"`[^`\n]*`", lambda m: pattern.sub(lambda k: turned[k[1]], m[0]), text)
+        out = re.sub(r"`([^`\s]+)`", cited, text)
         if out != text:
             open(f, "w", encoding="utf-8").write(out)
             print("docs:", f)
     print(f"respell: {len(turned)} names, {len(written)} files")
+    return len(turned)
 
 
-main()
+while main():
+    pass

@@ -7,7 +7,7 @@ use mathlib.Core.List.Memᴰ
 use mathlib.Core.List.{List, [], ◌∷◌, ◌++◌, Memᴰ}
 use lib.Dec.{T, not_T, T_not}
 use lib.Ieee.{Float, lt, le}
-use Rattle.float.proofs.Order.{lt_trans_all, lt-le_all, lt_irrefl_all, not_le→not_lt}
+use Rattle.float.proofs.Order.{lt_trans_all, lt_le_all, lt_irrefl_all, not_le→not_lt}
 use Rattle.best.specs.Trials.{Trials, after, proposed, tried, answer, Keeps}
 
 -- whatever is not below c is not below b
@@ -18,7 +18,7 @@ under_lt : (b c : Float) → T (lt b c) → Under b c
 under_lt b c h x n = not_T (lt x b) (λ (t : T (lt x b)). T_not (lt x c) n (lt_trans_all x b c t h))
 
 under_le : (b c : Float) → T (le b c) → Under b c
-under_le b c h x n = not_T (lt x b) (λ (t : T (lt x b)). T_not (lt x c) n (lt-le_all x b c t h))
+under_le b c h x n = not_T (lt x b) (λ (t : T (lt x b)). T_not (lt x c) n (lt_le_all x b c t h))
 
 -- ---- lists of sets, and the set that is kept of two
 

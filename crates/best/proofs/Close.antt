@@ -18,11 +18,11 @@ pow_one n = pow-suc n 0 ∙ ap (λ (x : ℕ). x * n) (pow-zero n) ∙ one-mul n
 module _ (N M : ℕ) where
   -- ---- one way
 
-  pub upto-one : (x y : ℕ) → x * N ≤ y * M → Upto N M 1 x y
-  upto-one x y h = rw (pow_one N, pow_one M) h
+  pub upto_one : (x y : ℕ) → x * N ≤ y * M → Upto N M 1 x y
+  upto_one x y h = rw (pow_one N, pow_one M) h
 
-  pub upto-trans : (j k x y z : ℕ) → Upto N M j x y → Upto N M k y z → Upto N M (j + k) x z
-  upto-trans j k x y z h l =
+  pub upto_trans : (j k x y z : ℕ) → Upto N M j x y → Upto N M k y z → Upto N M (j + k) x z
+  upto_trans j k x y z h l =
       le_trans (le_of_eq (ap (λ (w : ℕ). x * w) (pow-add N j k) ∙ sym (mul_assoc x (N ^ j) (N ^ k))))
       (le_trans (mul-le-mul_right (N ^ k) h)
       (le_trans (le_of_eq (mul_right_comm y (M ^ j) (N ^ k)))
@@ -32,13 +32,13 @@ module _ (N M : ℕ) where
   pub upto_le : (k x y : ℕ) → N ≤ M → x ≤ y → Upto N M k x y
   upto_le k x y h l = le_trans (mul-le-mul_right (N ^ k) l) (mul-le-mul_left y (pow-le-pow_left h k))
 
-  pub upto-more : (j k x y : ℕ) → N ≤ M → j ≤ k → Upto N M j x y → Upto N M k x y
-  upto-more j k x y h l u =
-      subst (λ (i : ℕ). Upto N M i x y) (add-sub_of_le l) (upto-trans j (k - j) x y y u (upto_le (k - j) y y h (le_refl y)))
+  pub upto_more : (j k x y : ℕ) → N ≤ M → j ≤ k → Upto N M j x y → Upto N M k x y
+  upto_more j k x y h l u =
+      subst (λ (i : ℕ). Upto N M i x y) (add-sub_of_le l) (upto_trans j (k - j) x y y u (upto_le (k - j) y y h (le_refl y)))
 
   -- where the factor is at most r / s as a whole
-  pub upto-at-most : (k x y r s : ℕ) → 0 < N ^ k → s * M ^ k ≤ r * N ^ k → Upto N M k x y → s * x ≤ r * y
-  upto-at-most k x y r s p b h =
+  pub upto_at_most : (k x y r s : ℕ) → 0 < N ^ k → s * M ^ k ≤ r * N ^ k → Upto N M k x y → s * x ≤ r * y
+  upto_at_most k x y r s p b h =
       le_of_mul-le-mul_right
       (le_trans (le_of_eq (mul_assoc s x (N ^ k)))
       (le_trans (mul-le-mul_left s h)
@@ -54,18 +54,18 @@ module _ (N M : ℕ) where
 
   -- ---- both ways
 
-  pub close-trans : (j k x y z : ℕ) → Close N M j x y → Close N M k y z → Close N M (j + k) x z
-  close-trans j k x y z h l =
-      (upto-trans j k x y z h.0 l.0, subst (λ (i : ℕ). Upto N M i z x) (add_comm k j) (upto-trans k j z y x l.1 h.1))
+  pub close_trans : (j k x y z : ℕ) → Close N M j x y → Close N M k y z → Close N M (j + k) x z
+  close_trans j k x y z h l =
+      (upto_trans j k x y z h.0 l.0, subst (λ (i : ℕ). Upto N M i z x) (add_comm k j) (upto_trans k j z y x l.1 h.1))
 
   pub close_more : (j k x y : ℕ) → N ≤ M → j ≤ k → Close N M j x y → Close N M k x y
-  close_more j k x y n l h = (upto-more j k x y n l h.0, upto-more j k y x n l h.1)
+  close_more j k x y n l h = (upto_more j k x y n l h.0, upto_more j k y x n l h.1)
 
-  pub close-add : (k x y x' y' : ℕ) → Close N M k x y → Close N M k x' y' → Close N M k (x + x') (y + y')
-  close-add k x y x' y' h l = (upto_add k x y x' y' h.0 l.0, upto_add k y x y' x' h.1 l.1)
+  pub close_add : (k x y x' y' : ℕ) → Close N M k x y → Close N M k x' y' → Close N M k (x + x') (y + y')
+  close_add k x y x' y' h l = (upto_add k x y x' y' h.0 l.0, upto_add k y x y' x' h.1 l.1)
 
-  pub close-unscale : (k x y c : ℕ) → 0 < c → Close N M k (x * c) (y * c) → Close N M k x y
-  close-unscale k x y c C h = (upto-unscale k x y c C h.0, upto-unscale k y x c C h.1)
+  pub close_unscale : (k x y c : ℕ) → 0 < c → Close N M k (x * c) (y * c) → Close N M k x y
+  close_unscale k x y c C h = (upto-unscale k x y c C h.0, upto-unscale k y x c C h.1)
 
-  pub close-eq : (k x y : ℕ) → N ≤ M → x ≡ y → Close N M k x y
-  close-eq k x y n e = (upto_le k x y n (le_of_eq e), upto_le k y x n (le_of_eq (sym e)))
+  pub close_eq : (k x y : ℕ) → N ≤ M → x ≡ y → Close N M k x y
+  close_eq k x y n e = (upto_le k x y n (le_of_eq e), upto_le k y x n (le_of_eq (sym e)))

@@ -9,7 +9,7 @@ use lib.Ieee.{Float, nan, inf, fin, up, down, lt}
 use lib.Ieee.Fits.{down_pos}
 use lib.Ieee.Order.{transfer}
 use Rattle.best.specs.ChiSquare.{chi, exact, AllTameValues, parts}
-use Rattle.best.proofs.Close.{Upto, upto-trans, upto-more, upto_le, upto-at-most}
+use Rattle.best.proofs.Close.{Upto, upto_trans, upto_more, upto_le, upto_at_most}
 use Rattle.best.proofs.Rounding.{P, N, M, P_pos, N≤M, Is}
 use Rattle.best.proofs.Bound.{enough, chi_within}
 
@@ -35,7 +35,7 @@ not_lt→units (fin false m e) (fin false n d) a b h k t =
 
 -- 2052 roundings change a number by less than one part in 2 ^ 41
 slack : (x y : ℕ) → Upto N M 2052 x y → parts * x ≤ (parts + 1) * y
-slack x y h = upto-at-most N M 2052 x y (parts + 1) parts (lit< tt) (lit≤ tt) h
+slack x y h = upto_at_most N M 2052 x y (parts + 1) parts (lit< tt) (lit≤ tt) h
 
 pub exact_of_not_lt : (h d h' d' : ℕ → Float) (n : ℕ) → n ≤ 1024 → AllTameValues h d n → AllTameValues h' d' n
     → T (not (lt (chi h' d' n) (chi h d n))) → parts * exact h d n ≤ (parts + 1) * exact h' d' n
@@ -46,7 +46,7 @@ exact_of_not_lt h d h' d' n l f g t =
     let y = exact h' d' n in
     let a≤b : a ≤ b = not_lt→units (chi h d n) (chi h' d' n) a b v w t in
     slack x y
-    (upto-trans N M 1026 1026 x (b * P) y
-    (upto-trans N M 1026 0 x (a * P) (b * P)
-    (upto-more N M (n + 2) 1026 x (a * P) N≤M (enough n l) p.1) (upto_le N M 0 (a * P) (b * P) N≤M (mul-le-mul_right P a≤b)))
-    (upto-more N M (n + 2) 1026 (b * P) y N≤M (enough n l) q.0))
+    (upto_trans N M 1026 1026 x (b * P) y
+    (upto_trans N M 1026 0 x (a * P) (b * P)
+    (upto_more N M (n + 2) 1026 x (a * P) N≤M (enough n l) p.1) (upto_le N M 0 (a * P) (b * P) N≤M (mul-le-mul_right P a≤b)))
+    (upto_more N M (n + 2) 1026 (b * P) y N≤M (enough n l) q.0))

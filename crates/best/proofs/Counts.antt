@@ -18,10 +18,10 @@ module _ {L A : Type 0} (p : Trials L A) where
   after_holds P on zero s h = h
   after_holds P on (suc k) s h = either P (p.ends s) (p.turn s) (after p k (p.turn s)) (on s h) (after_holds P on k (p.turn s) (on s h))
 
-  pub few-proposed : (k : ℕ) (s : L) → length (proposed p k s) ≤ k
+  pub few_proposed : (k : ℕ) (s : L) → length (proposed p k s) ≤ k
   unfolding proposed
-  few-proposed zero s = zero-le
-  few-proposed (suc k) s = go (p.ends s) (few-proposed k (p.turn s))
+  few_proposed zero s = zero-le
+  few_proposed (suc k) s = go (p.ends s) (few_proposed k (p.turn s))
     where
       go : (b : Bool) → length (proposed p k (p.turn s)) ≤ k → suc (length (cond b [] (proposed p k (p.turn s)))) ≤ suc k
       go true h = omega arith
@@ -38,6 +38,6 @@ module _ {L A : Type 0} (p : Trials L A) where
       go true h = omega (arith, more s)
       go false h = omega (arith, more s)
 
-  pub tried-length : (k : ℕ) (s : L) → length (tried p k s) ≡ length (proposed p k s) + 2
+  pub tried_length : (k : ℕ) (s : L) → length (tried p k s) ≡ length (proposed p k s) + 2
   unfolding tried
-  tried-length k s = simp length-append (omega arith)
+  tried_length k s = simp length-append (omega arith)

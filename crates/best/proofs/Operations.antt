@@ -13,7 +13,7 @@ use lib.Ieee.Fits.{down_pos}
 use lib.Ieee.Scale.{grid, round_same}
 use Rattle.float.specs.Float.{◌⊕◌, ◌⊗◌}
 use Rattle.best.proofs.Ratios as Ratios
-use Rattle.best.proofs.Close.{Close, close-unscale}
+use Rattle.best.proofs.Close.{Close, close_unscale}
 use Rattle.best.proofs.Rounding.{P, N, M, P_pos, Is, Rounded, rounded_normal, rounded_exact}
 
 -- x is finite, not negative, and within k roundings of s units of 2 ^ -2148
@@ -50,7 +50,7 @@ square_within r u h lo hi =
     let (g, (v, c)) = square_rounded u lo hi in (
       g,
       subst (λ (x : Float). Is x g) (sym (square_is r u h)) v,
-      close-unscale N M 1 (g * P) (u * u) P P_pos (subst (λ (x : ℕ). Close N M 1 x (u * u * P)) (sym (mul_assoc g P P)) c),
+      close_unscale N M 1 (g * P) (u * u) P P_pos (subst (λ (x : ℕ). Close N M 1 x (u * u * P)) (sym (mul_assoc g P P)) c),
     )
 
 -- ---- the sum

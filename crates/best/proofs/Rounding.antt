@@ -16,7 +16,7 @@ use lib.Ieee.Exact.{HasValue, round_exact}
 use lib.Ieee.Nearest.{closest}
 use lib.Ieee.Order.{drop, kept}
 use lib.Ieee.Scale.{grid, round_val, normal_of_fraction}
-use Rattle.best.proofs.Close.{Close, upto-one, close-eq}
+use Rattle.best.proofs.Close.{Close, upto_one, close_eq}
 
 -- P units are 1, and a rounding is within a factor M / N
 abbrev pub P : ℕ
@@ -108,7 +108,7 @@ grid_close a c C h =
     let (over, under) = closest_half n u (mul-pos C (pow_pos k)) in
     let l = last_place n c C h in
     subst (λ (x : ℕ). Close N M 1 x n) e
-    (upto-one N M (q * u) n (bound_up (q * u) n u over l), upto-one N M n (q * u) (bound_down (q * u) n u under l))
+    (upto_one N M (q * u) n (bound_up (q * u) n u over l), upto_one N M n (q * u) (bound_down (q * u) n u under l))
 
 -- ---- a / c rounded is g units
 
@@ -150,5 +150,5 @@ rounded_exact a c x C l e = (
   rescale (round binary64 false a c) false a c x P C (sym e)
       (round_exact binary64 false a c x 0 C l (lt_of_le_of_lt (le_of_eq (mul-one x)) (lt_of_lt_of_le l (lit≤ tt)))
       (e ∙ ap (λ (y : ℕ). y * c) (sym (mul-one x)))),
-  close-eq N M 1 (x * c) (a * P) N≤M (sym e),
+  close_eq N M 1 (x * c) (a * P) N≤M (sym e),
 )

@@ -23,5 +23,5 @@ module _ {L A : Type 0} (p : Trials L A) (limit : ℕ) where
     pub goes_on : (t : L) → t ≡ p.turn s → p.ends s ≡ false → whole ≡ after p (limit - (i + 1)) t
     goes_on t e h = one-turn ∙ rw (h, ← e)
 
-    pub is-left : (t : L) → t ≡ p.turn s → p.ends s ≡ true → t ≡ whole
-    is-left t e h = e ∙ sym (one-turn ∙ rw h)
+    pub is_left : (t : L) → t ≡ p.turn s → p.ends s ≡ true → t ≡ whole
+    is_left t e h = e ∙ sym (one-turn ∙ rw h)

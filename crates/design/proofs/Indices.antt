@@ -45,11 +45,11 @@ module _ {A : Type 0} where
       go true e = ap (λ l. y ∷ l) e
       go false e = e
 
-  pub kept-few : (fs : List ℕ) (xs : List A) → length (kept fs xs) ≤ length fs
+  pub kept_few : (fs : List ℕ) (xs : List A) → length (kept fs xs) ≤ length fs
   unfolding kept
-  kept-few [] xs = omega arith
-  kept-few (f ∷ fs) [] = omega arith
-  kept-few (f ∷ fs) (x ∷ xs) = go (eqb f 0) (kept-few fs xs)
+  kept_few [] xs = omega arith
+  kept_few (f ∷ fs) [] = omega arith
+  kept_few (f ∷ fs) (x ∷ xs) = go (eqb f 0) (kept_few fs xs)
     where
       go : (b : Bool) → length (kept fs xs) ≤ length fs → length (cond b (x ∷ kept fs xs) (kept fs xs)) ≤ suc (length fs)
       go true h = omega arith
@@ -72,9 +72,9 @@ kept-each P z (f ∷ fs) (x ∷ xs) p i h = go (eqb f 0) refl (kept-each P z fs 
 -- ---- the indices of flags that are 0
 
 module _ (flags : List ℕ) where
-  pub indices-few : length (collect_indices flags) ≤ length flags
+  pub indices_few : length (collect_indices flags) ≤ length flags
   unfolding collect_indices
-  indices-few = kept-few flags (up_to (length flags))
+  indices_few = kept_few flags (up_to (length flags))
 
   indices-each : (i : ℕ) → i < length (collect_indices flags)
       → (get_or (collect_indices flags) i 0 < length flags) × (is_free flags (get_or (collect_indices flags) i 0) ≡ true)
@@ -83,11 +83,11 @@ module _ (flags : List ℕ) where
       kept-each (λ (j : ℕ). (j < length flags) × (is_free flags j ≡ true)) 0 flags (up_to (length flags))
       (λ i h e. let l : i < length flags = rw (up_to-length (length flags)) at h in rw (up_to-at (length flags) i l) (l, e))
 
-  pub indices-below : Below (length flags) (collect_indices flags)
-  indices-below i h = (indices-each i h).0
+  pub indices_below : Below (length flags) (collect_indices flags)
+  indices_below i h = (indices-each i h).0
 
-  pub indices-free : (i : ℕ) → i < length (collect_indices flags) → is_free flags (get_or (collect_indices flags) i 0) ≡ true
-  indices-free i h = (indices-each i h).1
+  pub indices_free : (i : ℕ) → i < length (collect_indices flags) → is_free flags (get_or (collect_indices flags) i 0) ≡ true
+  indices_free i h = (indices-each i h).1
 
 -- ---- the loop that lists them: s, of which k places are written, after i flags
 

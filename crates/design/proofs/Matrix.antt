@@ -12,13 +12,13 @@ use Rattle.float.specs.Float.{◌⊗◌, #0}
 use Rattle.sequence.specs.Sequence.{at, part, concat_to, Only}
 use Rattle.sequence.proofs.Parts.{apart, length_part, zip-append}
 use Rattle.sequence.proofs.Fills.{last_or}
-use Rattle.sequence.proofs.Concat.{concat-length}
-use Rattle.sequence.proofs.Only.{length_cut, only_none, only_wider, only_then, back, back-only, back-part}
+use Rattle.sequence.proofs.Concat.{concat_length}
+use Rattle.sequence.proofs.Only.{length_cut, only_none, only_wider, only_then, back, back_only, back_part}
 use Rattle.solver.specs.declared.Settings.{Settings}
 use Rattle.terms.specs.declared.Term.{Term}
 use Rattle.design.specs.Design.{Star, star_at, sights_at, term_at, star_jacobian, cos_dec, sky_column, weighed, weighing, weighed_at, stacked}
 use Rattle.design.specs.Matrix.{Matrix, matrix_of, hour_entry, dec_entry, entries, FilledUpTo, FillsColumn, HasRoom}
-use Rattle.design.proofs.Rows.{star-by-star}
+use Rattle.design.proofs.Rows.{star_by_star}
 
 -- ---- two numbers a star
 
@@ -27,7 +27,7 @@ both F G n = concat_to n (λ i. F i ∷ G i ∷ [])
 
 module _ (F G : ℕ → Float) where
   both_long : (n : ℕ) → length (both F G n) ≡ 2 * n
-  both_long = concat-length (λ i. F i ∷ G i ∷ []) 2 (λ i. refl)
+  both_long = concat_length (λ i. F i ∷ G i ∷ []) 2 (λ i. refl)
 
   both_at : (n i : ℕ) → i < n → (at (both F G n) (2 * i) ≡ F i) × (at (both F G n) (2 * i + 1) ≡ G i)
   unfolding concat_to
@@ -77,10 +77,10 @@ module _ (F G : ℕ → Float) where
 -- ---- a column's entries are what the fit has for its term
 
 module _ (names free pier : List ℕ) (sheets : List Float) (used : List ℕ) (s : Settings) (k : Float) (w : List Float) (room : 8 * length used ≤ length w) where
-  pub entries-are : (j : ℕ) → entries (matrix_of names free pier sheets used s k w) j
+  pub entries_are : (j : ℕ) → entries (matrix_of names free pier sheets used s k w) j
       ≡ weighed_at k (part w (6 * length used) (2 * length used)) s (sights_at pier sheets used) names (get_or free j 0)
   unfolding sky_column
-  entries-are j =
+  entries_are j =
       let t = term_at names (get_or free j 0) in
       let b = part w (6 * length used) (2 * length used) in
       let f : Star → Float = λ x. (star_jacobian s t x).dh ⊗ cos_dec x.sheet in
@@ -88,7 +88,7 @@ module _ (names free pier : List ℕ) (sheets : List Float) (used : List ℕ) (s
       let star = star_at [] [] pier sheets in
       let long = length_part w (6 * length used) (2 * length used) (omega arith) in
       sym
-      (ap (weighing k b) (star-by-star star f g used)
+      (ap (weighing k b) (star_by_star star f g used)
       ∙ both-weighed (λ i. f (star (get_or used i 0))) (λ i. g (star (get_or used i 0))) k b (length used) long)
 
 -- ---- a column at a time
@@ -106,9 +106,9 @@ deepened w w₁ ys a x n h low room is only kept e =
     let whole : n + (h - n) ≡ h = omega arith in
     let fits : x + n + (h - n) ≤ length w₁ = omega (arith, only.long) in
     let zeros : ys ≡ replicate (h - n) #0 = rw (length_cut w₁ (x + n) (h - n) fits) at e in
-    let last : Only (x + n) (h - n) w₁ v = back-only w₁ ys (x + n) (h - n) fits kept in
+    let last : Only (x + n) (h - n) w₁ v = back_only w₁ ys (x + n) (h - n) fits kept in
     let top : part v x n ≡ a = last.below x n (omega arith) ∙ is in
-    let rest : part v (x + n) (h - n) ≡ replicate (h - n) #0 = back-part w₁ ys (x + n) (h - n) fits kept ∙ zeros in (
+    let rest : part v (x + n) (h - n) ≡ replicate (h - n) #0 = back_part w₁ ys (x + n) (h - n) fits kept ∙ zeros in (
       rw (whole, top, rest) at (part_split v x n (h - n)),
       only_then x h w w₁ v (only_wider x n x h w w₁ (omega arith) (omega arith) only) (only_wider (x + n) (h - n) x h w₁ v (omega arith) (omega arith) last),
     )
@@ -165,7 +165,7 @@ module _ (names free pier : List ℕ) (sheets : List Float) (used : List ℕ) (c
       let there =
       e
       ∙ ap₂ (λ (b : List Float) (u : Term). weighing k b (sky_column s (sights_at pier sheets used) u)) same is
-      ∙ sym (entries-are names free pier sheets used s k was (omega (arith, r.behind, r.columns_fit, p.outside.long)) j) in
+      ∙ sym (entries_are names free pier sheets used s k was (omega (arith, r.behind, r.columns_fit, p.outside.long)) j) in
       let d = deepened w w₁ ys _ (c + j * h) (2 * n) h r.rows_fit column-room there o kept zeros in
       filled_next p _ l d.0 d.1
 
@@ -200,11 +200,11 @@ module _ (cols : ℕ → List Float) (free : List ℕ) (n c h : ℕ) (w : List F
 
 module _ (names free pier : List ℕ) (sheets : List Float) (used : List ℕ) (s : Settings) (k : Float) (c h : ℕ) (was is : List Float)
     (r : HasRoom names free pier sheets used c h was) where
-  pub design-stacked : FilledUpTo (matrix_of names free pier sheets used s k was) c h (length free) was is
+  pub design_stacked : FilledUpTo (matrix_of names free pier sheets used s k was) c h (length free) was is
       → part is c (length free * h)
       ≡ stacked h (map (weighed_at k (part was (6 * length used) (2 * length used)) s (sights_at pier sheets used) names) free)
-  design-stacked p =
-      let are = entries-are names free pier sheets used s k was (omega (arith, r.behind, r.columns_fit)) in
+  design_stacked p =
+      let are = entries_are names free pier sheets used s k was (omega (arith, r.behind, r.columns_fit)) in
       let a = matrix_of names free pier sheets used s k was in
       let b = part was (6 * length used) (2 * length used) in
       let zeros = replicate (h - 2 * length used) #0 in

@@ -53,8 +53,8 @@ module _ (star : ℕ → Star) where
         rw (take-suc us n 0 h, map-append star (take n us) (u ∷ []), rows_append f g (map star (take n us)) (star u ∷ []), rows-to us n (omega arith)) refl
 
     -- by the numbers of the stars
-    pub star-by-star : (us : List ℕ) → rows f g (map star us) ≡ concat_to (length us) (λ i. f (star (get_or us i 0)) ∷ g (star (get_or us i 0)) ∷ [])
-    star-by-star us = rw take-length at (rows-to us (length us) (omega arith))
+    pub star_by_star : (us : List ℕ) → rows f g (map star us) ≡ concat_to (length us) (λ i. f (star (get_or us i 0)) ∷ g (star (get_or us i 0)) ∷ [])
+    star_by_star us = rw take-length at (rows-to us (length us) (omega arith))
 
     pub hour : (us : List ℕ) (r : ℕ) → r < length us → f (star (get_or us r 0)) ≡ at (rows f g (map star us)) (2 * r)
     unfolding rows
@@ -84,26 +84,26 @@ module _ (star : ℕ → Star) where
         let n : length (rows f g (map star us)) ≡ 2 * length us = count us in
         ap (λ (x : Float). op x (at b (2 * r + 1))) (dec us r h) ∙ zip-at op (rows f g (map star us)) b (2 * r + 1) (e ∙ sym n) (omega arith)
 
-  pub sky-hour : (us : List ℕ) (b : List Float) (r : ℕ) → length b ≡ 2 * length us → r < length us
+  pub sky_hour : (us : List ℕ) (b : List Float) (r : ℕ) → length b ≡ 2 * length us → r < length us
       → at (sky_rows (map star us) b) (2 * r) ≡ at b (2 * r) ⊗ cos_dec (star (get_or us r 0)).sheet
   unfolding sky_rows
-  sky-hour [] b r h i = absurd (omega arith)
-  sky-hour (u ∷ us) [] r h i = absurd (omega arith)
-  sky-hour (u ∷ us) (x ∷ []) r h i = absurd (omega arith)
-  sky-hour (u ∷ us) (x ∷ y ∷ b) zero h i = refl
-  sky-hour (u ∷ us) (x ∷ y ∷ b) (suc r) h i =
+  sky_hour [] b r h i = absurd (omega arith)
+  sky_hour (u ∷ us) [] r h i = absurd (omega arith)
+  sky_hour (u ∷ us) (x ∷ []) r h i = absurd (omega arith)
+  sky_hour (u ∷ us) (x ∷ y ∷ b) zero h i = refl
+  sky_hour (u ∷ us) (x ∷ y ∷ b) (suc r) h i =
       let two : 2 * suc r ≡ suc (suc (2 * r)) = omega arith in
-      rw two (sky-hour us b r (omega arith) (omega arith))
+      rw two (sky_hour us b r (omega arith) (omega arith))
 
-  pub sky-dec : (us : List ℕ) (b : List Float) (r : ℕ) → length b ≡ 2 * length us → r < length us → at (sky_rows (map star us) b) (2 * r + 1) ≡ at b (2 * r + 1)
+  pub sky_dec : (us : List ℕ) (b : List Float) (r : ℕ) → length b ≡ 2 * length us → r < length us → at (sky_rows (map star us) b) (2 * r + 1) ≡ at b (2 * r + 1)
   unfolding sky_rows
-  sky-dec [] b r h i = absurd (omega arith)
-  sky-dec (u ∷ us) [] r h i = absurd (omega arith)
-  sky-dec (u ∷ us) (x ∷ []) r h i = absurd (omega arith)
-  sky-dec (u ∷ us) (x ∷ y ∷ b) zero h i = refl
-  sky-dec (u ∷ us) (x ∷ y ∷ b) (suc r) h i =
+  sky_dec [] b r h i = absurd (omega arith)
+  sky_dec (u ∷ us) [] r h i = absurd (omega arith)
+  sky_dec (u ∷ us) (x ∷ []) r h i = absurd (omega arith)
+  sky_dec (u ∷ us) (x ∷ y ∷ b) zero h i = refl
+  sky_dec (u ∷ us) (x ∷ y ∷ b) (suc r) h i =
       let two : 2 * suc r + 1 ≡ suc (suc (2 * r + 1)) = omega arith in
-      rw two (sky-dec us b r (omega arith) (omega arith))
+      rw two (sky_dec us b r (omega arith) (omega arith))
 
   -- ---- rows that read nothing in which two stars differ
 
@@ -113,13 +113,13 @@ module _ (star : ℕ → Star) where
   rows_same f g other p q [] = refl
   rows_same f g other p q (u ∷ us) = rw (p u, q u, rows_same f g other p q us)
 
-  pub sky-same : (other : ℕ → Star) → ((i : ℕ) → (star i).sheet ≡ (other i).sheet) → (us : List ℕ) (b : List Float)
+  pub sky_same : (other : ℕ → Star) → ((i : ℕ) → (star i).sheet ≡ (other i).sheet) → (us : List ℕ) (b : List Float)
       → sky_rows (map star us) b ≡ sky_rows (map other us) b
   unfolding sky_rows
-  sky-same other p [] b = refl
-  sky-same other p (u ∷ us) [] = refl
-  sky-same other p (u ∷ us) (x ∷ []) = refl
-  sky-same other p (u ∷ us) (x ∷ y ∷ b) = rw (p u, sky-same other p us b)
+  sky_same other p [] b = refl
+  sky_same other p (u ∷ us) [] = refl
+  sky_same other p (u ∷ us) (x ∷ []) = refl
+  sky_same other p (u ∷ us) (x ∷ y ∷ b) = rw (p u, sky_same other p us b)
 
 -- ---- a loop that fills a pair a star: what it has made after r stars
 
@@ -129,14 +129,14 @@ module _ (f : Star → Pair) (star : ℕ → Star) (us : List ℕ) where
     pub size : length d ≡ 2 * length us
     pub is : Partway d (pairs f (map star us)) (2 * r) col
 
-  pub pairing-start : (d : List Float) → length d ≡ 2 * length us → Pairing d 0 d
+  pub pairing_start : (d : List Float) → length d ≡ 2 * length us → Pairing d 0 d
   unfolding pairs
-  pairing-start d e = record { few = omega arith; size = e; is = start d _ (count star _ _ us ∙ sym e) }
+  pairing_start d e = record { few = omega arith; size = e; is = start d _ (count star _ _ us ∙ sym e) }
 
   module _ {d : List Float} {r : ℕ} {col : List Float} (p : Pairing d r col) where
-    pub pairing-next : (x : Pair) → r < length us → x ≡ f (star (get_or us r 0)) → Pairing d (r + 1) (set (set col (2 * r) x.dh) (2 * r + 1) x.dd)
+    pub pairing_next : (x : Pair) → r < length us → x ≡ f (star (get_or us r 0)) → Pairing d (r + 1) (set (set col (2 * r) x.dh) (2 * r + 1) x.dd)
     unfolding pairs
-    pairing-next x l e =
+    pairing_next x l e =
         record {
           few = omega arith;
           size = p.size;
@@ -145,5 +145,5 @@ module _ (f : Star → Pair) (star : ℕ → Star) (us : List ℕ) where
               (rw e (dec star _ _ us r l));
         }
 
-    pub pairing-end : length us ≤ r → col ≡ pairs f (map star us)
-    pairing-end h = end d _ (2 * r) col (omega (arith, p.size)) p.is
+    pub pairing_end : length us ≤ r → col ≡ pairs f (map star us)
+    pairing_end h = end d _ (2 * r) col (omega (arith, p.size)) p.is

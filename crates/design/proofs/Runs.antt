@@ -19,36 +19,36 @@ abbrev pub with_terms : RunInputs → ℕ → RunInputs
 with_terms l m = run_inputs m l.names l.free l.dh l.dd l.pier l.sheets l.used l.settings
 
 module _ (l : RunInputs) where
-  pub counted-as : (m : ℕ) → m ≡ l.m → Counted l → Counted (with_terms l m)
-  counted-as m e c = rw e c
+  pub counted_as : (m : ℕ) → m ≡ l.m → Counted l → Counted (with_terms l m)
+  counted_as m e c = rw e c
 
   -- ---- how many
 
-  pub count-is : length l.used ≡ length (run_from l).stars
-  count-is = sym (stars.stars-count l.dh l.dd l.pier l.sheets l.used)
+  pub count_is : length l.used ≡ length (run_from l).stars
+  count_is = sym (stars.stars_count l.dh l.dd l.pier l.sheets l.used)
 
   pub rows_are : 2 * length l.used ≡ rows_of (run_from l)
-  rows_are = ap (λ (n : ℕ). 2 * n) count-is
+  rows_are = ap (λ (n : ℕ). 2 * n) count_is
 
-  pub height-is : 2 * length l.used + 2 * l.m ≡ height_of (run_from l)
-  height-is = ap (λ (n : ℕ). n + 2 * l.m) rows_are
+  pub height_is : 2 * length l.used + 2 * l.m ≡ height_of (run_from l)
+  height_is = ap (λ (n : ℕ). n + 2 * l.m) rows_are
 
   -- ---- columns and residuals
 
-  pub columns-are : (λ j. column l.settings (sights_at l.pier l.sheets l.used) (term_at l.names j)) ≡ column_of (run_from l)
-  columns-are = fun_ext (λ j. sym (stars.column-sights l.dh l.dd l.pier l.sheets l.used l.settings (term_at l.names j)))
+  pub columns_are : (λ j. column l.settings (sights_at l.pier l.sheets l.used) (term_at l.names j)) ≡ column_of (run_from l)
+  columns_are = fun_ext (λ j. sym (stars.column_sights l.dh l.dd l.pier l.sheets l.used l.settings (term_at l.names j)))
 
-  pub sky-columns-are : (λ j. sky_column l.settings (sights_at l.pier l.sheets l.used) (term_at l.names j)) ≡ sky_of (run_from l)
-  sky-columns-are = fun_ext (λ j. sym (stars.sky-column-sights l.dh l.dd l.pier l.sheets l.used l.settings (term_at l.names j)))
+  pub sky_columns_are : (λ j. sky_column l.settings (sights_at l.pier l.sheets l.used) (term_at l.names j)) ≡ sky_of (run_from l)
+  sky_columns_are = fun_ext (λ j. sym (stars.sky_column_sights l.dh l.dd l.pier l.sheets l.used l.settings (term_at l.names j)))
 
-  pub differences-are : differences (stars_at l.dh l.dd [] [] l.used) ≡ differences (run_from l).stars
-  differences-are = sym (stars.differences-same l.dh l.dd l.pier l.sheets l.used)
+  pub differences_are : differences (stars_at l.dh l.dd [] [] l.used) ≡ differences (run_from l).stars
+  differences_are = sym (stars.differences-same l.dh l.dd l.pier l.sheets l.used)
 
-  pub sky-differences-are : sky_differences (stars_at l.dh l.dd [] l.sheets l.used) ≡ sky_differences (run_from l).stars
-  sky-differences-are = sym (stars.sky-differences-same l.dh l.dd l.pier l.sheets l.used)
+  pub sky_differences_are : sky_differences (stars_at l.dh l.dd [] l.sheets l.used) ≡ sky_differences (run_from l).stars
+  sky_differences_are = sym (stars.sky_differences-same l.dh l.dd l.pier l.sheets l.used)
 
-  pub sky-rows-are : (b : List Float) → sky_rows (sights_at [] l.sheets l.used) b ≡ sky_rows (run_from l).stars b
-  sky-rows-are b = sym (stars.sky-rows-same l.dh l.dd l.pier l.sheets l.used b)
+  pub sky_rows_are : (b : List Float) → sky_rows (sights_at [] l.sheets l.used) b ≡ sky_rows (run_from l).stars b
+  sky_rows_are b = sym (stars.sky_rows-same l.dh l.dd l.pier l.sheets l.used b)
 
   -- ---- what the loops count on
 
@@ -69,5 +69,5 @@ module _ (l : RunInputs) where
     read i h = first_each (λ j. (read_term (slot l.names j)).refusal) l.m c.names_read (get_or l.free i 0) (c.free_below i h)
 
     -- the free terms' columns take no more room than those of all terms
-    pub free-room : (h : ℕ) → length l.free * h ≤ l.m * h
-    free-room h = mul-le-mul_right h c.free_few
+    pub free_room : (h : ℕ) → length l.free * h ≤ l.m * h
+    free_room h = mul-le-mul_right h c.free_few

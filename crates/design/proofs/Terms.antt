@@ -10,9 +10,9 @@ use lib.Seq.{sets, length-take-le, take_at, drop_at}
 use lib.Ieee.{Float, lt}
 use Rattle.float.specs.Float.{#0}
 use Rattle.sequence.specs.Sequence.{part, each, Beside, Only}
-use Rattle.sequence.proofs.Parts.{length_part, part-sets-same, length-zip, length-zip-part}
-use Rattle.sequence.proofs.Fills.{each_none, each_next, each-end}
-use Rattle.sequence.proofs.Only.{only-sets, only_wider, only_then, back, back_long, back-only, back-part}
+use Rattle.sequence.proofs.Parts.{length_part, part_sets_same, length-zip, length_zip_part}
+use Rattle.sequence.proofs.Fills.{each_none, each_next, each_end}
+use Rattle.sequence.proofs.Only.{only_sets, only_wider, only_then, back, back_long, back_only, back_part}
 use Rattle.terms.specs.declared.Term.{Term}
 use Rattle.design.specs.Design.{weighed, weighing}
 use Rattle.design.specs.Counted.{Apart}
@@ -26,11 +26,11 @@ combines f v w w' a n room there only e =
     let z = zip_with f (part v n n) a in
     let fits : n + n ≤ length w = rw only.long room in
     let old : part w n n ≡ part v n n = only.above n n (omega arith) in
-    let count : length z ≡ n = rw (there, old) at (length-zip-part f w n 0 n fits (omega arith)) in
+    let count : length z ≡ n = rw (there, old) at (length_zip_part f w n 0 n fits (omega arith)) in
     let q : w' ≡ sets w n z = rw (there, old) at e in
     let first : Only 0 (n + n) v w = only_wider 0 n 0 (n + n) v w (omega arith) (omega arith) only in
-    let then : Only 0 (n + n) w (sets w n z) = only_wider n n 0 (n + n) w (sets w n z) (omega arith) (omega arith) (only-sets w n n z (omega arith)) in
-    rw q (part-sets-same w n n z count fits, only_then 0 (n + n) v w (sets w n z) first then)
+    let then : Only 0 (n + n) w (sets w n z) = only_wider n n 0 (n + n) w (sets w n z) (omega arith) (omega arith) (only_sets w n n z (omega arith)) in
+    rw q (part_sets_same w n n z count fits, only_then 0 (n + n) v w (sets w n z) first then)
 
 -- the same, where the column came back in the first n
 pub turns : (f : Float → Float → Float) (v ys w a : List Float) (n : ℕ) → n + n ≤ length v → length ys ≡ length (take n v) → ys ≡ a
@@ -39,7 +39,7 @@ turns f v ys w a n room kept is e =
     let first : 0 + n ≤ length v = omega arith in
     let z : 0 + n - 0 ≡ n = omega arith in
     let k : length ys ≡ length (take (0 + n - 0) v) = rw z kept in
-    (combines f v (ys ++ drop n v) w a n room (rw z at (back-part v ys 0 n first k) ∙ is) (rw z at (back-only v ys 0 n first k)) e).0
+    (combines f v (ys ++ drop n v) w a n room (rw z at (back_part v ys 0 n first k) ∙ is) (rw z at (back_only v ys 0 n first k)) e).0
 
 -- ---- Huber weights
 
@@ -61,14 +61,14 @@ pub weighs : (k : Float) (w ys w' a : List Float) (x n y : ℕ) → Apart x n y 
 weighs k w ys w' a x n y apart room room' kept is e =
     let u = back w ys x n in
     let z = weighing k (part w y n) a in
-    let only : Only x n w u = back-only w ys x n room kept in
-    let there : part u x n ≡ a = back-part w ys x n room kept ∙ is in
+    let only : Only x n w u = back_only w ys x n room kept in
+    let there : part u x n ≡ a = back_part w ys x n room kept ∙ is in
     let old : part u y n ≡ part w y n = ⊎_elim (λ h. only.above y n h) (λ h. only.below y n h) apart in
     let q : w' ≡ sets u x z = rw (there, old) at e in
     let long : length a ≡ n = ap length (sym is) ∙ back_long w ys x n room kept in
     let count : length z ≡ n = weighing_long k (part w y n) a (length_part w y n room' ∙ sym long) ∙ long in
     let fits : x + n ≤ length u = rw only.long room in
-    rw q (part-sets-same u x n z count fits, only_then x n w u (sets u x z) only (only-sets u x n z (omega arith)))
+    rw q (part_sets_same u x n z count fits, only_then x n w u (sets u x z) only (only_sets u x n z (omega arith)))
 
 -- ---- loops over terms
 
@@ -102,12 +102,12 @@ module _ {skip : Float → Bool} {f : Float → List Float → List Float → Li
     next w l k e =
         record { low = omega arith; long = k ∙ t.long; is = each_next j (step skip f c a term) (part v₀ n n) (part v n n) (part w n n) t.is e }
 
-    pub turned-next : (w : List Float) (x : Term) → j < m → skip (c j) ≡ false → length w ≡ length v → x ≡ term j
+    pub turned_next : (w : List Float) (x : Term) → j < m → skip (c j) ≡ false → length w ≡ length v → x ≡ term j
         → part w n n ≡ f (c j) (part v n n) (a x) → Turned skip f c a term n m v₀ w (j + 1)
-    turned-next w x l h k is e = next w l k (rw (h, ← is) e)
+    turned_next w x l h k is e = next w l k (rw (h, ← is) e)
 
-    pub turned-still : j < m → skip (c j) ≡ true → Turned skip f c a term n m v₀ v (j + 1)
-    turned-still l h = next v l refl (rw h)
+    pub turned_still : j < m → skip (c j) ≡ true → Turned skip f c a term n m v₀ v (j + 1)
+    turned_still l h = next v l refl (rw h)
 
-    pub turned-end : m ≤ j → part v n n ≡ each m 0 (step skip f c a term) (part v₀ n n)
-    turned-end h = each-end j m (step skip f c a term) (part v₀ n n) (part v n n) t.low h t.is
+    pub turned_end : m ≤ j → part v n n ≡ each m 0 (step skip f c a term) (part v₀ n n)
+    turned_end h = each_end j m (step skip f c a term) (part v₀ n n) (part v n n) t.low h t.is

@@ -13,6 +13,6 @@ module _ (p : Point) (c : Float) (c-is : c ≡ sin_alt p) where
   pub small_is : (a : Float) (b : Bool) → a ≡ abs c → lt a (of_bits binary64 0x3ddb7cdfd9d7bdbb) ≡ b → small (sin_alt p) ≡ b
   small_is a b a-is e = rw (← c-is, ← a-is) e
 
-  pub scale-is : (n k : ℕ) (m z r : Float) → m ≡ at_least_zero (#1 ⊖ c ⊗ c) → z ≡ sqrt binary64 m → k ≡ n - 1 → r ≡ power (z ⊘ c) k
+  pub scale_is : (n k : ℕ) (m z r : Float) → m ≡ at_least_zero (#1 ⊖ c ⊗ c) → z ≡ sqrt binary64 m → k ≡ n - 1 → r ≡ power (z ⊘ c) k
       → r ≡ power (tan_z (sin_alt p)) (n - 1)
-  scale-is n k m z r m-is z-is k-is r_is = rw (r_is, z-is, m-is, k-is, c-is)
+  scale_is n k m z r m-is z-is k-is r_is = rw (r_is, z-is, m-is, k-is, c-is)

@@ -59,5 +59,5 @@ module _ (l : FitInputs) (o : IterOptions) (s : Sizes) where
       by true q = let e : ◌≡◌ {A = ℕ} 5 0 = fifth 0 (sym (eqb-true _ 0 q)) refl ∙ z in omega arith
       by false q = let other = eqb-false (no_of (numbers_asked l o s)) 0 q in other (earlier _ refl other ∙ z)
 
-  pub unknown-not-given : (r : FitAnswer) (out : List Float) → r ≡ refused_answer (unknown_no l o s) → BestWhereGiven l o r out
-  unknown-not-given r out e z = absurd (unknown-not-zero (sym (ap (λ (a : FitAnswer). a.refusal) e) ∙ z))
+  pub unknown_not_given : (r : FitAnswer) (out : List Float) → r ≡ refused_answer (unknown_no l o s) → BestWhereGiven l o r out
+  unknown_not_given r out e z = absurd (unknown-not-zero (sym (ap (λ (a : FitAnswer). a.refusal) e) ∙ z))

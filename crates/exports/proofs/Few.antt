@@ -15,7 +15,7 @@ use Rattle.harmonic.specs.declared.HarmonicComponent.{HarmonicComponent}
 use Rattle.harmonic.specs.declared.HarmonicRead.{HarmonicRead}
 use Rattle.terms.specs.Names.{read_term}
 use Rattle.terms.specs.declared.Term.{Term}
-use Rattle.terms.proofs.Readings.{of-reading}
+use Rattle.terms.proofs.Readings.{of_reading}
 
 either : {A : Type 0} (f : A → ℕ) (n : ℕ) (t : Bool) (a b : A) → (t ≡ true → f a ≤ n) → f b ≤ n → f (cond t a b) ≤ n
 either f n true a b p q = p refl
@@ -59,4 +59,4 @@ parse_few n h =
     (omega (arith, parsed_size result list, components_size (drop 2 n), length-drop 2 n))
 
 pub few : (slot : List ℕ) → (read_term slot).term.components.count ≤ 7
-few = of-reading (λ (t : Term). t.components.count ≤ 7) (λ t name. omega arith) parse_few
+few = of_reading (λ (t : Term). t.components.count ≤ 7) (λ t name. omega arith) parse_few

@@ -116,38 +116,38 @@ lt_trans_all (fin s m e) (fin t n d) (inf r) h k = k
 lt_trans_all (fin s m e) (fin t n d) (fin r l c) h k =
     below-trans (m * up e) (n * up d) (l * up c) (down e) (down d) (down c) (down_pos e) (down_pos d) (down_pos c) s t r h k
 
-pub lt-eq_all : (x y z : Float) → T (lt x y) → T (eq y z) → T (lt x z)
+pub lt_eq_all : (x y z : Float) → T (lt x y) → T (eq y z) → T (lt x z)
 unfolding lt eq
-lt-eq_all nan y z h k = absurd h
-lt-eq_all (inf s) nan z h k = absurd h
-lt-eq_all (fin s m e) nan z h k = absurd h
-lt-eq_all (inf s) (inf t) nan h k = absurd k
-lt-eq_all (inf s) (inf true) (inf true) h k = h
-lt-eq_all (inf s) (inf true) (inf false) h k = absurd k
-lt-eq_all (inf s) (inf false) (inf true) h k = absurd k
-lt-eq_all (inf s) (inf false) (inf false) h k = h
-lt-eq_all (inf s) (inf t) (fin r l c) h k = absurd k
-lt-eq_all (fin s m e) (inf t) nan h k = absurd k
-lt-eq_all (fin s m e) (inf true) (inf true) h k = h
-lt-eq_all (fin s m e) (inf true) (inf false) h k = absurd k
-lt-eq_all (fin s m e) (inf false) (inf true) h k = absurd k
-lt-eq_all (fin s m e) (inf false) (inf false) h k = h
-lt-eq_all (fin s m e) (inf t) (fin r l c) h k = absurd k
-lt-eq_all (inf s) (fin t n d) nan h k = absurd k
-lt-eq_all (inf s) (fin t n d) (inf r) h k = absurd k
-lt-eq_all (inf s) (fin t n d) (fin r l c) h k = h
-lt-eq_all (fin s m e) (fin t n d) nan h k = absurd k
-lt-eq_all (fin s m e) (fin t n d) (inf r) h k = absurd k
-lt-eq_all (fin s m e) (fin t n d) (fin r l c) h k =
+lt_eq_all nan y z h k = absurd h
+lt_eq_all (inf s) nan z h k = absurd h
+lt_eq_all (fin s m e) nan z h k = absurd h
+lt_eq_all (inf s) (inf t) nan h k = absurd k
+lt_eq_all (inf s) (inf true) (inf true) h k = h
+lt_eq_all (inf s) (inf true) (inf false) h k = absurd k
+lt_eq_all (inf s) (inf false) (inf true) h k = absurd k
+lt_eq_all (inf s) (inf false) (inf false) h k = h
+lt_eq_all (inf s) (inf t) (fin r l c) h k = absurd k
+lt_eq_all (fin s m e) (inf t) nan h k = absurd k
+lt_eq_all (fin s m e) (inf true) (inf true) h k = h
+lt_eq_all (fin s m e) (inf true) (inf false) h k = absurd k
+lt_eq_all (fin s m e) (inf false) (inf true) h k = absurd k
+lt_eq_all (fin s m e) (inf false) (inf false) h k = h
+lt_eq_all (fin s m e) (inf t) (fin r l c) h k = absurd k
+lt_eq_all (inf s) (fin t n d) nan h k = absurd k
+lt_eq_all (inf s) (fin t n d) (inf r) h k = absurd k
+lt_eq_all (inf s) (fin t n d) (fin r l c) h k = h
+lt_eq_all (fin s m e) (fin t n d) nan h k = absurd k
+lt_eq_all (fin s m e) (fin t n d) (inf r) h k = absurd k
+lt_eq_all (fin s m e) (fin t n d) (fin r l c) h k =
     below-level (m * up e) (n * up d) (l * up c) (down e) (down d) (down c) (down_pos e) (down_pos d) (down_pos c) s t r h k
 
 or_split : (a b : Bool) → T (a || b) → T a ⊎ T b
 or_split true b t = inl tt
 or_split false b t = inr t
 
-pub lt-le_all : (x y z : Float) → T (lt x y) → T (le y z) → T (lt x z)
+pub lt_le_all : (x y z : Float) → T (lt x y) → T (le y z) → T (lt x z)
 unfolding le
-lt-le_all x y z h k = elim (or_split (lt y z) (eq y z) k) [ inl l ↦ lt_trans_all x y z h l | inr e ↦ lt-eq_all x y z h e ]
+lt_le_all x y z h k = elim (or_split (lt y z) (eq y z) k) [ inl l ↦ lt_trans_all x y z h l | inr e ↦ lt_eq_all x y z h e ]
 
 not_or : (a b : Bool) → T (not (a || b)) → T (not a)
 not_or true b t = t

@@ -18,7 +18,7 @@ use Rattle.sequence.proofs.Fills.{each_last}
 use Rattle.best.specs.ChiSquare.{chi, AtMost}
 use Rattle.best.specs.Trials.{proposed, answer, Keeps}
 use Rattle.best.proofs.Best.{answer-listed}
-use Rattle.best.proofs.Counts.{after_holds, few-proposed, counts, tried-length}
+use Rattle.best.proofs.Counts.{after_holds, few_proposed, counts, tried_length}
 use Rattle.best.proofs.Demand.{demand3}
 use Rattle.solver.specs.declared.Fit.{Fit}
 use Rattle.solver.specs.declared.Fit.TheVariants.{Done, Refused}
@@ -27,8 +27,8 @@ use Rattle.solver.specs.declared.IterOptions.{IterOptions}
 use Rattle.solver.specs.declared.SigmaBy.{SigmaBy}
 use Rattle.solver.specs.Call.{FitInputs, Buffers}
 use Rattle.design.specs.Design.{Star, Run, run_of, run_inputs_of, collect_indices, is_free, sky_rows}
-use Rattle.design.proofs.Indices.{up_to-length, indices-free}
-use Rattle.design.proofs.Runs.{count-is}
+use Rattle.design.proofs.Indices.{up_to-length, indices_free}
+use Rattle.design.proofs.Runs.{count_is}
 use Rattle.outcome.specs.Outcome.{Outcome, outcome, finished}
 use Rattle.lm_system.specs.System.{residuals_under, sky_residuals, hour, dec, chi2_at, moved}
 use Rattle.iterated.specs.Iterated.{Tried, trial_of, Report, answered, trials, begin, lm_loop, last_set, fitted, fitted_run}
@@ -114,9 +114,9 @@ module _ (r : Run) (o : IterOptions) (start : List Float) where
   unfolding trial_of
   counted-on p = turn_by (λ (t : Report). t.how.iterations ≡ p.how.iterations + 1) p (below p) _ _ refl refl
 
-  pub known-end : Known loop
+  pub known_end : Known loop
   unfolding lm_loop
-  known-end = after_holds (trials r o) Known known_on o.max_iter (begin r o start) refl
+  known_end = after_holds (trials r o) Known known_on o.max_iter (begin r o start) refl
 
   -- as many turns as sets proposed
   count-end : loop.how.iterations ≡ length (proposed (trials r o) o.max_iter (begin r o start))
@@ -131,7 +131,7 @@ module _ (r : Run) (o : IterOptions) (start : List Float) where
 
   final-is : final ≡ answer (trials r o) o.max_iter (begin r o start)
   unfolding last_set lm_loop answer
-  final-is = ap (λ (c : Float). cond (le (chi2_at r ((trials r o).last loop)) c) ((trials r o).last loop) loop.set) known-end
+  final-is = ap (λ (c : Float). cond (le (chi2_at r ((trials r o).last loop)) c) ((trials r o).last loop) loop.set) known_end
 
   -- what each step keeps
   module _ (P : List Float → Type 0) (on : (x s : List Float) → P s → P (moved r.free x s)) (begins : P start) where
@@ -139,35 +139,35 @@ module _ (r : Run) (o : IterOptions) (start : List Float) where
     unfolding trial_of
     turn-keeps p h = turn_by (λ (t : Report). P t.set) p (below p) _ _ (on _ p.set h) h
 
-    pub loop-keeps : P loop.set
+    pub loop_keeps : P loop.set
     unfolding lm_loop
-    loop-keeps = after_holds (trials r o) (λ (p : Report). P p.set) turn-keeps o.max_iter (begin r o start) begins
+    loop_keeps = after_holds (trials r o) (λ (p : Report). P p.set) turn-keeps o.max_iter (begin r o start) begins
 
     either : (b : Bool) (s t : List Float) → P s → P t → P (cond b s t)
     either true s t h k = h
     either false s t h k = k
 
-    pub final-keeps : P final
+    pub final_keeps : P final
     unfolding last_set
-    final-keeps = either (le (chi2_at r ((trials r o).last loop)) loop.how.prev_chi2) _ _ (on _ loop.set loop-keeps) loop-keeps
+    final_keeps = either (le (chi2_at r ((trials r o).last loop)) loop.how.prev_chi2) _ _ (on _ loop.set loop_keeps) loop_keeps
 
   is-chi : (s : List Float) → (trials r o).score s ≡ chi (hour r s) (dec r s) (length r.stars)
   unfolding chi2_at
   is-chi s = refl
 
-  pub final-length : length final ≡ length start
-  final-length = final-keeps (λ s. length s ≡ length start) (λ x s e. moved_length r.free x s ∙ e) refl
+  pub final_length : length final ≡ length start
+  final_length = final_keeps (λ s. length s ≡ length start) (λ x s e. moved_length r.free x s ∙ e) refl
 
 -- ---- of a call
 
 module _ (l : FitInputs) (o : IterOptions) where
   -- a fixed term's place is in no list of free terms
   other : (j i : ℕ) → is_free l.fixed j ≡ false → i < length (collect_indices l.fixed) → j ≡ get_or (collect_indices l.fixed) i 0 → ⊥
-  other j i e h q = false≢true (sym e ∙ rw (← q) at (indices-free l.fixed i h))
+  other j i e h q = false≢true (sym e ∙ rw (← q) at (indices_free l.fixed i h))
 
   final-kept : (j : ℕ) → is_free l.fixed j ≡ false → at (final (run_of l) o l.coefficients) j ≡ at l.coefficients j
   final-kept j e =
-      final-keeps (run_of l) o l.coefficients (λ s. at s j ≡ at l.coefficients j)
+      final_keeps (run_of l) o l.coefficients (λ s. at s j ≡ at l.coefficients j)
       (moved_keeps (λ s. at s j ≡ at l.coefficients j) (collect_indices l.fixed)
       (λ i h t v q. get_or-set_other t (get_or (collect_indices l.fixed) i 0) j v nan (other j i e h) ∙ q))
       refl
@@ -180,15 +180,15 @@ best_of_tried l o few =
     let k = o.max_iter in
     let s = begin r o l.coefficients in
     let is = sym (final-is r o l.coefficients) in
-    let stars : length r.stars ≤ max_stars = omega (arith, count-is (run_inputs_of l), up_to-length (length l.dh)) in
+    let stars : length r.stars ≤ max_stars = omega (arith, count_is (run_inputs_of l), up_to-length (length l.dh)) in
     record {
       listed = subst (λ (z : List Float). Memᴰ z (tried_sets l o)) is (answer-listed p (Known r o l.coefficients) (rule r o l.coefficients) k s refl);
       best = λ x m f. subst (λ (z : List Float). TameAt r z → AtMost (exact_sum_at r z) (exact_sum_at r x)) is
           (demand3 p (Known r o l.coefficients) (rule r o l.coefficients) (hour r) (dec r) (length r.stars) stars
           (is-chi r o l.coefficients) (made r) k s refl x m f);
       kept = λ j h e. final-kept l o j e;
-      counted = omega (arith, count-end r o l.coefficients, tried-length p k s);
-      limited = omega (arith, count-end r o l.coefficients, few-proposed p k s);
+      counted = omega (arith, count-end r o l.coefficients, tried_length p k s);
+      limited = omega (arith, count-end r o l.coefficients, few_proposed p k s);
     }
 
 -- ---- an accepted call: its answer, and what the buffers hold at its end
@@ -205,6 +205,6 @@ fitted_demand l by o b left r few e =
     let m = length l.coefficients in
     let s = final (run_of l) o l.coefficients in
     let out : take m left.coefficients ≡ s =
-    ap (λ (z : Outcome). take m z.left.coefficients) e ∙ take_at s _ m (final-length (run_of l) o l.coefficients) in
+    ap (λ (z : Outcome). take m z.left.coefficients) e ∙ take_at s _ m (final_length (run_of l) o l.coefficients) in
     let count : r.iter_report.iterations ≡ (lm_loop (run_of l) o l.coefficients).how.iterations = ap (λ (z : Outcome). iterations_of z.answer) e in
     rw (out, count) (best_of_tried l o few)

@@ -10,16 +10,16 @@ use Rattle.float.specs.Float.{◌⊗◌, ◌⊘◌, #0}
 use Rattle.sequence.specs.Sequence.{at, part}
 use Rattle.sequence.proofs.Parts.{part-take}
 use Rattle.best.specs.Trials.{after}
-use Rattle.best.proofs.Turns.{begins, goes_on, is-left, ran_out}
+use Rattle.best.proofs.Turns.{begins, goes_on, is_left, ran_out}
 use Rattle.linalg.specs.declared.SolveOutcome.{SolveOutcome}
 use Rattle.linalg.specs.Linalg.{Solved}
 use Rattle.solver.specs.declared.IterOptions.{IterOptions}
 use Rattle.design.specs.Design.{RunInputs, run_from, sights_at, term_at, product, extracted, weighed_at}
 use Rattle.design.specs.Counted.{Counted}
-use Rattle.design.proofs.Runs.{with_terms, count-is, rows_are}
+use Rattle.design.proofs.Runs.{with_terms, count_is, rows_are}
 use Rattle.outcome.specs.Scratch.{count_of, height_in, residuals_in, b_in, sky_in, solved_in, Fits}
-use Rattle.outcome.proofs.Front.{renewed, Renewed, front-part, front_above}
-use Rattle.outcome.proofs.Runs.{weighed-are}
+use Rattle.outcome.proofs.Front.{renewed, Renewed, front_part, front_above}
+use Rattle.outcome.proofs.Runs.{weighed_are}
 use Rattle.lm_system.specs.System.{residuals_under, sky_residuals, chi2_at, huber_from, huber_k_of, weighed_residuals, lm_step, moved, step_norm}
 use Rattle.iterated.specs.declared.Trial.{Trial}
 use Rattle.iterated.specs.declared.Trial.TheVariants.{Accepted, Rejected}
@@ -43,15 +43,15 @@ set_front free x s t e =
 
 module _ {l : RunInputs} (c : Counted l) {w ys : List Float} {k : ℕ} (r : Renewed w ys k) where
   -- it holds the residuals
-  pub left-front : (x : List Float) → 4 * count_of l ≤ k → residuals_in l ys ≡ x → residuals_in l (renewed w ys k) ≡ x
-  left-front x h e = front-part r (2 * count_of l) (2 * count_of l) (omega arith) ∙ e
+  pub left_front : (x : List Float) → 4 * count_of l ≤ k → residuals_in l ys ≡ x → residuals_in l (renewed w ys k) ≡ x
+  left_front x h e = front_part r (2 * count_of l) (2 * count_of l) (omega arith) ∙ e
 
   above : (i n : ℕ) → k ≤ i → part (renewed w ys k) i n ≡ part w i n
   above i n h = ap (take n) (front_above r i h)
 
   -- what is solved lies behind it
-  pub solved-front : (o : SolveOutcome) → k ≤ 8 * count_of l → solved_in l (renewed w ys k) o ≡ solved_in l w o
-  solved-front o h = ap (λ (u : List Float). record { outcome = o; w = u }) (above (8 * count_of l) (length l.free * height_in l) h)
+  pub solved_front : (o : SolveOutcome) → k ≤ 8 * count_of l → solved_in l (renewed w ys k) o ≡ solved_in l w o
+  solved_front o h = ap (λ (u : List Float). record { outcome = o; w = u }) (above (8 * count_of l) (length l.free * height_in l) h)
 
 -- ---- no residual knows how many terms there are
 
@@ -76,12 +76,12 @@ proposes {l} c k lambda s w ys set chi2 a r p e q =
     let n = count_of l in
     let t = take (length s) set in
     record {
-      solution = solved-front c r a (omega arith) ∙ p.0;
+      solution = solved_front c r a (omega arith) ∙ p.0;
       b = above c r (4 * n) (2 * n) (omega arith) ∙ p.1.0;
       sky = above c r (6 * n) (2 * n) (omega arith) ∙ p.1.1;
       trial = e;
       chi2_is = q.0 ∙ chi2_same l (length t) t ∙ ap (chi2_at (run_from l)) e;
-      left = left-front c r _ (omega arith) q.1 ∙ residuals_same l (length t) t ∙ ap (residuals_under (run_from l)) e;
+      left = left_front c r _ (omega arith) q.1 ∙ residuals_same l (length t) t ∙ ap (residuals_under (run_from l)) e;
     }
 
 -- ---- a trial from the set s, whose proposal is given
@@ -89,7 +89,7 @@ proposes {l} c k lambda s w ys set chi2 a r p e q =
 module _ {l : RunInputs} {k lambda : Float} {s w set : List Float} {next : Float} {a : SolveOutcome} (p : Proposed l k lambda s w set next a)
     (o : IterOptions) (chi2 : Float) (ek : k ≡ huber_from (count_of l) (length l.free) o chi2) where
   k-is : k ≡ huber_k_of (run_from l) o chi2
-  k-is = ek ∙ ap (λ (n : ℕ). huber_from n (length l.free) o chi2) (count-is l)
+  k-is = ek ∙ ap (λ (n : ℕ). huber_from n (length l.free) o chi2) (count_is l)
 
   solution-is : solved_in l w a ≡ step_from (run_from l) o chi2 lambda s
   solution-is = p.solution ∙ ap (λ (z : Float). lm_step (run_from l) z lambda s) k-is
@@ -139,14 +139,14 @@ loop_begins {l} c o s w norm chi2 long en ec left =
 
 module _ {l : RunInputs} {o : IterOptions} {s₀ : List Float} {size : ℕ} {s w : List Float} {i : ℕ} {converged : Bool} {lambda norm chi2 : Float}
     (u : Looping l o s₀ size s w i converged lambda norm chi2) where
-  pub loop-ready : (w₀ : List Float) → Fits l w₀ → size ≡ length w₀ → Fits (with_terms l (length s)) w × Left (with_terms l (length s)) s w
-  loop-ready w₀ f e = rw u.long (record { counted = f.counted; room = rw (u.room, e) f.room }, u.left)
+  pub loop_ready : (w₀ : List Float) → Fits l w₀ → size ≡ length w₀ → Fits (with_terms l (length s)) w × Left (with_terms l (length s)) s w
+  loop_ready w₀ f e = rw u.long (record { counted = f.counted; room = rw (u.room, e) f.room }, u.left)
 
-  pub loop-left : (y w' : List Float) → Left (with_terms l (length s)) y w' → Left l y w'
-  loop-left y w' e = e ∙ residuals_same l (length s) y
+  pub loop_left : (y w' : List Float) → Left (with_terms l (length s)) y w' → Left l y w'
+  loop_left y w' e = e ∙ residuals_same l (length s) y
 
-  pub loop-over : o.max_iter ≤ i → report s i converged lambda norm chi2 ≡ lm_loop (run_from l) o s₀
-  loop-over h = rw u.not_yet (ran_out (trials (run_from l) o) o.max_iter _ _ i h u.comes)
+  pub loop_over : o.max_iter ≤ i → report s i converged lambda norm chi2 ≡ lm_loop (run_from l) o s₀
+  loop_over h = rw u.not_yet (ran_out (trials (run_from l) o) o.max_iter _ _ i h u.comes)
 
   -- a trial gave t and left the set y
   module _ (more : i < o.max_iter) (t : Trial) (y : List Float) (did : tried_to t y ≡ trial_of (run_from (with_terms l (length s))) o chi2 lambda s) where
@@ -170,56 +170,56 @@ module _ {l : RunInputs} {o : IterOptions} {s₀ : List Float} {size : ℕ} {s w
           room = lw ∙ u.room;
           not_yet = u.not_yet;
           comes = goes_on (trials (run_from l) o) o.max_iter _ _ i more u.comes _ (e ∙ turned) (left_by ∙ h);
-          left = loop-left y w' left;
+          left = loop_left y w' left;
         }
 
     ends : (z : Report) → z ≡ answered o (report s i false lambda norm chi2) t y → leaves o t ≡ true → z ≡ lm_loop (run_from l) o s₀
-    ends z e h = is-left (trials (run_from l) o) o.max_iter _ _ i more u.comes z (e ∙ turned) (left_by ∙ h)
+    ends z e h = is_left (trials (run_from l) o) o.max_iter _ _ i more u.comes z (e ∙ turned) (left_by ∙ h)
 
     module _ (next step : Float) (is : t ≡ Accepted next step) where
-      pub accepted-on : (w' : List Float) → lt step o.tol_rad ≡ false → length y ≡ length s → length w' ≡ length w → Left (with_terms l (length s)) y w'
+      pub accepted_on : (w' : List Float) → lt step o.tol_rad ≡ false → length y ≡ length s → length w' ≡ length w → Left (with_terms l (length s)) y w'
           → Looping l o s₀ size y w' (i + 1) converged (lambda ⊘ o.lambda_down) step next
-      accepted-on w' h = goes w' (lambda ⊘ o.lambda_down) step next (rw (is, h) refl) (rw is h)
+      accepted_on w' h = goes w' (lambda ⊘ o.lambda_down) step next (rw (is, h) refl) (rw is h)
 
-      pub accepted-ends : lt step o.tol_rad ≡ true → report y (i + 1) true (lambda ⊘ o.lambda_down) step next ≡ lm_loop (run_from l) o s₀
-      accepted-ends h = ends _ (rw (is, h) refl) (rw is h)
+      pub accepted_ends : lt step o.tol_rad ≡ true → report y (i + 1) true (lambda ⊘ o.lambda_down) step next ≡ lm_loop (run_from l) o s₀
+      accepted_ends h = ends _ (rw (is, h) refl) (rw is h)
 
     module _ (raised : Float) (is : t ≡ Rejected raised) where
-      pub rejected-on : (w' : List Float) → lt lambda_limit raised ≡ false → length y ≡ length s → length w' ≡ length w → Left (with_terms l (length s)) y w'
+      pub rejected_on : (w' : List Float) → lt lambda_limit raised ≡ false → length y ≡ length s → length w' ≡ length w → Left (with_terms l (length s)) y w'
           → Looping l o s₀ size y w' (i + 1) converged raised norm chi2
-      rejected-on w' h = goes w' raised norm chi2 (rw is refl) (rw is h)
+      rejected_on w' h = goes w' raised norm chi2 (rw is refl) (rw is h)
 
-      pub rejected-ends : lt lambda_limit raised ≡ true → report y (i + 1) converged raised norm chi2 ≡ lm_loop (run_from l) o s₀
-      rejected-ends h = ends _ (rw (is, u.not_yet) refl) (rw is h)
+      pub rejected_ends : lt lambda_limit raised ≡ true → report y (i + 1) converged raised norm chi2 ≡ lm_loop (run_from l) o s₀
+      rejected_ends h = ends _ (rw (is, u.not_yet) refl) (rw is h)
 
 -- ---- the last trial, whose proposal is given, and the residuals ys that come back after it
 
 module _ {l : RunInputs} {k : Float} {s w set : List Float} {last : Float} {a : SolveOutcome} (c : Counted l) (p : Proposed l k #0 s w set last a)
     (o : IterOptions) (chi2 : Float) (ek : k ≡ huber_from (count_of l) (length l.free) o chi2) where
-  pub last-kept : (s' : List Float) → le last chi2 ≡ true → s' ≡ take (length s) set
+  pub last_kept : (s' : List Float) → le last chi2 ≡ true → s' ≡ take (length s) set
       → (s' ≡ last_set (run_from l) o chi2 s) × (last ≡ last_chi2 (run_from l) o chi2 s)
   unfolding last_set last_chi2
-  last-kept s' h e = (rw (← next-is p o chi2 ek, h) (e ∙ trial-is p o chi2 ek), rw (← next-is p o chi2 ek, h) refl)
+  last_kept s' h e = (rw (← next-is p o chi2 ek, h) (e ∙ trial-is p o chi2 ek), rw (← next-is p o chi2 ek, h) refl)
 
-  pub last-not : le last chi2 ≡ false → (s ≡ last_set (run_from l) o chi2 s) × (chi2 ≡ last_chi2 (run_from l) o chi2 s)
+  pub last_not : le last chi2 ≡ false → (s ≡ last_set (run_from l) o chi2 s) × (chi2 ≡ last_chi2 (run_from l) o chi2 s)
   unfolding last_set last_chi2
-  last-not h = (rw (← next-is p o chi2 ek, h) refl, rw (← next-is p o chi2 ek, h) refl)
+  last_not h = (rw (← next-is p o chi2 ek, h) refl, rw (← next-is p o chi2 ek, h) refl)
 
-  pub tried-last : (s' ys : List Float) (least : Float) → (s' ≡ last_set (run_from l) o chi2 s) × (least ≡ last_chi2 (run_from l) o chi2 s)
+  pub tried_last : (s' ys : List Float) (least : Float) → (s' ≡ last_set (run_from l) o chi2 s) × (least ≡ last_chi2 (run_from l) o chi2 s)
       → Renewed w ys (8 * count_of l)
       → residuals_in l ys ≡ zip_with (sub binary64) (b_in l (take (8 * count_of l) w)) (product (2 * count_of l) (length l.free) (at a.x)
       (extracted l.free (weighed_at k (sky_in l (take (8 * count_of l) w)) l.settings (sights_at l.pier l.sheets l.used) l.names)))
       → LastTried l o chi2 s (renewed w ys (8 * count_of l)) s' least a
   unfolding free_residuals
-  tried-last s' ys least e r q =
+  tried_last s' ys least e r q =
       let n = count_of l in
       let b : b_in l (take (8 * n) w) ≡ weighed_residuals (run_from l) k s = part-take w (4 * n) (2 * n) (8 * n) (omega arith) r.room ∙ p.b in
       let sky : sky_in l (take (8 * n) w) ≡ sky_residuals (run_from l) s = part-take w (6 * n) (2 * n) (8 * n) (omega arith) r.room ∙ p.sky in
       let is : residuals_in l ys ≡ free_residuals (run_from l) o chi2 s =
-      q ∙ rw (b, sky, weighed-are l k (sky_residuals (run_from l) s), rows_are l, x_is p o chi2 ek, k-is p o chi2 ek) refl in
+      q ∙ rw (b, sky, weighed_are l k (sky_residuals (run_from l) s), rows_are l, x_is p o chi2 ek, k-is p o chi2 ek) refl in
       record {
         kept = e.0;
         least_is = e.1;
-        solution = solved-front c r a (omega arith) ∙ solution-is p o chi2 ek;
-        left = left-front c r _ (omega arith) is;
+        solution = solved_front c r a (omega arith) ∙ solution-is p o chi2 ek;
+        left = left_front c r _ (omega arith) is;
       }

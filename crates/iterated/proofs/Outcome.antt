@@ -17,7 +17,7 @@ use Rattle.validate.proofs.Passed.{ready}
 use Rattle.outcome.specs.Outcome.{SameFit, SameButSigma, outcome, finished}
 use Rattle.outcome.proofs.AnyScratch.{finished-same, decided-same}
 use Rattle.outcome.proofs.AnyChoice.{finished_but_sigma, decided_but_sigma}
-use Rattle.outcome.proofs.Call.{answered, refusal-has-number}
+use Rattle.outcome.proofs.Call.{answered, refusal_has_number}
 use Rattle.iterated.specs.Iterated.{fitted_run, fitted, iterated_outcome}
 use Rattle.iterated.specs.Demand3.{Demand3}
 use Rattle.iterated.proofs.Best.{fitted_demand}
@@ -53,4 +53,4 @@ any_choice l by by' o b =
 
 pub refusal_not_zero : (l : FitInputs) (by : SigmaBy) (o : IterOptions) (b : Buffers) (k : ℕ) → (iterated_outcome l by o b).answer ≡ Refused k → k ≡ 0 → ⊥
 unfolding iterated_outcome fitted_run finished
-refusal_not_zero l by o b = refusal-has-number l o b (fitted l by o b) _ refl
+refusal_not_zero l by o b = refusal_has_number l o b (fitted l by o b) _ refl

@@ -17,18 +17,18 @@ use Rattle.solver.specs.Call.{buffers}
 use Rattle.best.specs.ChiSquare.{chi}
 use Rattle.design.specs.Design.{Run, RunInputs, run_from, scattered}
 use Rattle.design.specs.Counted.{Counted}
-use Rattle.design.proofs.Runs.{with_terms, count-is}
+use Rattle.design.proofs.Runs.{with_terms, count_is}
 use Rattle.stats.specs.declared.Sky.{Sky}
 use Rattle.stats.specs.Stats.{degrees, sum_sq_sky, sky_of_sum, sky_from, divisor, variance, sigma_at}
 use Rattle.outcome.specs.Outcome.{diagnostic_from, diagnostic_numbers, answer_of, outcome}
 use Rattle.outcome.specs.Scratch.{count_of, height_in, residuals_in, columns_in, solved_in}
-use Rattle.outcome.proofs.Front.{renewed, Renewed, front_long, front_fits, front-again, front-count, front_rest}
+use Rattle.outcome.proofs.Front.{renewed, Renewed, front_long, front_fits, front_again, front_count, front_rest}
 use Rattle.outcome.proofs.Laws.{InOrder, damped_in_order, finishes}
 use Rattle.lm_system.specs.System.{residuals_under, sky_residuals, chi2_at, lm_step}
 use Rattle.iterated.specs.declared.LmLoopResult.{LmLoopResult}
 use Rattle.iterated.specs.Iterated.{proposal, Report, lm_loop, last_step, last_set, last_chi2, free_residuals, reported, fitted_run, Left, LastTried}
 use Rattle.iterated.proofs.Laws.{residuals_same}
-use Rattle.iterated.proofs.Best.{known-end}
+use Rattle.iterated.proofs.Best.{known_end}
 
 -- ---- the chi-square of a set, and what it says of the set on the sky
 
@@ -44,7 +44,7 @@ least_at r o chi2 s e = go (le (chi2_at r (proposal r o chi2 #0 s)) chi2)
 pub sky_is : (l : RunInputs) (s : List Float) → sky_of_sum (count_of l) (length l.free) (chi2_at (run_from l) s)
     ≡ sky_from (run_from l).stars (length l.free) (residuals_under (run_from l) s)
 unfolding sky_from sum_sq_sky chi2_at chi sky_residuals
-sky_is l s = rw (count-is l)
+sky_is l s = rw (count_is l)
 
 pub last_in_order : (l : RunInputs) (o : IterOptions) (chi2 : Float) (s : List Float) → InOrder (length l.free) (last_step (run_from l) o chi2 s).outcome
 unfolding lm_step
@@ -65,7 +65,7 @@ pub record Written (l : RunInputs) (need : ℕ) (start out ys zs set scratch v w
 -- the last trial begins where the loop ended
 pub left_again : (l : RunInputs) (m m' need : ℕ) (out zs scratch v : List Float) → Renewed out zs l.m → Renewed scratch v need → Left (with_terms l m) zs v
     → Left (with_terms l m') (take l.m (renewed out zs l.m)) (take need (renewed scratch v need))
-left_again l m m' need out zs scratch v r t e = rw (front-again r, front-again t) (e ∙ residuals_same l m zs ∙ sym (residuals_same l m' zs))
+left_again l m m' need out zs scratch v r t e = rw (front_again r, front_again t) (e ∙ residuals_same l m zs ∙ sym (residuals_same l m' zs))
 
 -- what the loop came to, and the last trial from there
 pub record Searched (l : RunInputs) (o : IterOptions) (start set w : List Float) (how : LmLoopResult) (least : Float) (a : SolveOutcome) : Type 0 where
@@ -80,28 +80,28 @@ module _ {l : RunInputs} {need : ℕ} {start out ys zs set scratch v w : List Fl
   abbrev last-scratch : List Float
   last-scratch = renewed (renewed scratch v need) w need
 
-  pub out-long : length (renewed looped-out set l.m) ≡ length out
-  out-long = front_long t.kept ∙ front_long t.looped ∙ front_long t.begun
+  pub out_long : length (renewed looped-out set l.m) ≡ length out
+  out_long = front_long t.kept ∙ front_long t.looped ∙ front_long t.begun
 
-  pub scratch-fits : need ≤ length last-scratch
-  scratch-fits = front_fits t.ended
+  pub scratch_fits : need ≤ length last-scratch
+  scratch_fits = front_fits t.ended
 
-  pub scratch-long : length last-scratch ≡ length scratch
-  scratch-long = front_long t.ended ∙ front_long t.worked
+  pub scratch_long : length last-scratch ≡ length scratch
+  scratch_long = front_long t.ended ∙ front_long t.worked
 
   out-is : renewed looped-out set l.m ≡ set ++ drop l.m out
   out-is = ap (λ (u : List Float). set ++ u) (front_rest t.looped ∙ front_rest t.begun)
 
   scratch-is : (d : List Float) → d ≡ replicate (length (take need last-scratch)) #0 → renewed last-scratch d need ≡ replicate need #0 ++ drop need scratch
-  scratch-is d e = rw (e, front-count t.ended, front_rest t.ended, front_rest t.worked) refl
+  scratch-is d e = rw (e, front_count t.ended, front_rest t.ended, front_rest t.worked) refl
 
   pub searched : (o : IterOptions) (how : LmLoopResult) (least : Float) (a : SolveOutcome)
       → record { set = zs; how = how } ≡ lm_loop (run_from (with_terms l (length (take l.m (renewed out ys l.m))))) o (take l.m (renewed out ys l.m))
       → LastTried (with_terms l (length (take l.m looped-out))) o how.prev_chi2 (take l.m looped-out) w set least a
       → Searched l o start set w how least a
   searched o how least a e q =
-      let loop : record { set = zs; how = how } ≡ lm_loop (run_from l) o start = rw (front-count t.begun, front-again t.begun, t.begins) at e in
-      let last : LastTried l o how.prev_chi2 zs w set least a = rw (front-count t.looped, front-again t.looped) at q in
+      let loop : record { set = zs; how = how } ≡ lm_loop (run_from l) o start = rw (front_count t.begun, front_again t.begun, t.begins) at e in
+      let last : LastTried l o how.prev_chi2 zs w set least a = rw (front_count t.looped, front_again t.looped) at q in
       record {
         came = ap (λ (p : Report). p.how) loop;
         last = subst (λ (p : Report). LastTried l o p.how.prev_chi2 p.set w set least a) loop last;
@@ -113,14 +113,14 @@ module _ {l : RunInputs} {need : ℕ} {start out ys zs set scratch v w : List Fl
 
     sky-of : (sky : Sky) → sky ≡ sky_of_sum (count_of l) (length l.free) least
         → sky ≡ sky_from (run_from l).stars (length l.free) (residuals_under (run_from l) (last_set (run_from l) o loop.how.prev_chi2 loop.set))
-    sky-of sky e = e ∙ rw (q.last.least_is ∙ least_at (run_from l) o _ _ (known-end (run_from l) o start)) (sky_is l _)
+    sky-of sky e = e ∙ rw (q.last.least_is ∙ least_at (run_from l) o _ _ (known_end (run_from l) o start)) (sky_is l _)
 
     -- what the last trial left, as it is lent last
-    pub solved-last : solved_in l (take need last-scratch) a ≡ last_step (run_from l) o loop.how.prev_chi2 loop.set
-    solved-last = rw (front-again t.ended) q.last.solution
+    pub solved_last : solved_in l (take need last-scratch) a ≡ last_step (run_from l) o loop.how.prev_chi2 loop.set
+    solved_last = rw (front_again t.ended) q.last.solution
 
     left-last : residuals_in l (take need last-scratch) ≡ free_residuals (run_from l) o loop.how.prev_chi2 loop.set
-    left-last = rw (front-again t.ended) q.last.left
+    left-last = rw (front_again t.ended) q.last.left
 
     pub run-fitted : (by : SigmaBy) (change sigma diagnostics ch sigma' diagnostics' d : List Float) (sky : Sky) (answer : FitResult)
         → ch ≡ zip_with (sub binary64) (take l.m (renewed looped-out set l.m)) start → sky ≡ sky_of_sum (count_of l) (length l.free) least
@@ -139,6 +139,6 @@ module _ {l : RunInputs} {need : ℕ} {start out ys zs set scratch v w : List Fl
     unfolding fitted_run
     run-fitted by change sigma diagnostics ch sigma' diagnostics' d sky answer ec ek ea ei ed ez =
         let is = q.last.kept in
-        let moved : ch ≡ zip_with (sub binary64) set start = rw (front-again t.kept) at ec in
+        let moved : ch ≡ zip_with (sub binary64) set start = rw (front_again t.kept) at ec in
         finishes l by need (buffers out change sigma diagnostics scratch) (take need last-scratch) _ _ _ _ _ _ sigma' diagnostics' _ a _ sky _ answer
-        solved-last left-last (sky-of sky ek) (rw (out-is, is) refl) (rw (moved, is) refl) (rw q.came at ea) ei ed (scratch-is d ez)
+        solved_last left-last (sky-of sky ek) (rw (out-is, is) refl) (rw (moved, is) refl) (rw q.came at ea) ei ed (scratch-is d ez)

@@ -6,7 +6,7 @@ use lib.ListN.{length}
 use lib.Ieee.{Float}
 use Rattle.jacobi.specs.Jacobi.{Factorised, SweepsInLimit}
 use Rattle.linalg.specs.Linalg.{Solved}
-use Rattle.linalg.proofs.Sweeps.{sweeps-made, sweeps-settled, undamped}
+use Rattle.linalg.proofs.Sweeps.{sweeps-made, sweeps_settled, undamped}
 use Rattle.solver.specs.declared.Fit.TheVariants.{Done}
 use Rattle.solver.specs.declared.FitResult.{FitResult}
 use Rattle.solver.specs.declared.IterOptions.{IterOptions}
@@ -29,7 +29,7 @@ module _ (r : Run) (o : IterOptions) (chi2 : Float) (s : List Float) where
 
   settled : (last_step r o chi2 s).outcome.settled ≡ told.settled
   unfolding lm_step
-  settled = ap (λ (x : Solved). x.outcome.settled) (undamped _ _ _ _ _ _) ∙ sweeps-settled _ _ _ _ _ _
+  settled = ap (λ (x : Solved). x.outcome.settled) (undamped _ _ _ _ _ _) ∙ sweeps_settled _ _ _ _ _ _
 
 module _ (l : FitInputs) (by : SigmaBy) (o : IterOptions) (b : Buffers) (x : FitResult) (done : (iterated_outcome l by o b).answer ≡ Done x) where
   -- of the columns weighed as the set has it at which the loop has ended

@@ -42,18 +42,18 @@ module _ (h rows m : ℕ) where
       let st = sweep h rows m w in
       either (λ f. f.settled ≡ false → f.made ≡ k + suc n) st.turned _ _ (λ e. omega (arith, made_all n (k + 1) st.w e)) (λ e. absurd (true≢false e))
 
-  pub at-most-30 : (w : List Float) → (factorised h rows m w).made ≤ 30
-  at-most-30 w = made-below 30 0 w
+  pub at_most_30 : (w : List Float) → (factorised h rows m w).made ≤ 30
+  at_most_30 w = made-below 30 0 w
 
-  pub all-30 : (w : List Float) → (factorised h rows m w).settled ≡ false → (factorised h rows m w).made ≡ 30
-  all-30 w e = made_all 30 0 w e
+  pub all_30 : (w : List Float) → (factorised h rows m w).settled ≡ false → (factorised h rows m w).made ≡ 30
+  all_30 w e = made_all 30 0 w e
 
-  pub in-limit : (w : List Float) → SweepsInLimit (factorised h rows m w).made (factorised h rows m w).settled
-  in-limit w = record { some = omega (arith, made_some 29 0 w); most = at-most-30 w; fewer = by (factorised h rows m w).settled refl }
+  pub in_limit : (w : List Float) → SweepsInLimit (factorised h rows m w).made (factorised h rows m w).settled
+  in_limit w = record { some = omega (arith, made_some 29 0 w); most = at_most_30 w; fewer = by (factorised h rows m w).settled refl }
     where
       by : (b : Bool) → (factorised h rows m w).settled ≡ b → (factorised h rows m w).made < 30 → b ≡ true
       by true e below = refl
-      by false e below = absurd (omega (arith, all-30 w e, below))
+      by false e below = absurd (omega (arith, all_30 w e, below))
 
 pub one_column : (h rows : ℕ) (w : List Float) → factorised h rows 1 w ≡ record { w = w; made = 1; settled = true }
 unfolding sweeps sweep row each

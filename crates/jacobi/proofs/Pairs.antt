@@ -11,10 +11,10 @@ use lib.Seq.{sets}
 use lib.Ieee.{Float}
 use Rattle.float.specs.Float.{◌⊗◌}
 use Rattle.sequence.specs.Sequence.{part}
-use Rattle.sequence.proofs.Parts.{apart, length-zip-part, part-sets_above, part-sets_below}
+use Rattle.sequence.proofs.Parts.{apart, length_zip_part, part_sets_above, part_sets_below}
 use Rattle.jacobi.specs.declared.Products.{Products}
 use Rattle.jacobi.specs.Jacobi.{products, turns, turn, new_p, new_q, pair, zeta_of, tan_of, cos_of}
-use Rattle.jacobi.proofs.Laws.{turn-zero, turn-length, turn_step, pair-turned}
+use Rattle.jacobi.proofs.Laws.{turn-zero, turn-length, turn_step, pair_turned}
 
 -- ---- V's rows after A's
 
@@ -42,10 +42,10 @@ module _ (c s : Float) (k x y : ℕ) (l : List Float) where
     rest-keeps =
         let F = zip_with (new_p c s) (part l (x + k) j) (part l (y + k) j) in
         let G = zip_with (new_q c s) (part l (x + k) j) (part l (y + k) j) in
-        let nF : length F ≡ j = length-zip-part (new_p c s) l (x + k) (y + k) j (omega arith) (omega arith) in
-        let nG : length G ≡ j = length-zip-part (new_q c s) l (x + k) (y + k) j (omega arith) (omega arith) in
-        let ex = part-sets_below (sets l (x + k) F) x k (y + k) G (omega arith) ∙ part-sets_below l x k (x + k) F (omega arith) in
-        let ez = part-sets_above (sets l (x + k) F) z k (y + k) G (omega arith) ∙ part-sets_above l z k (x + k) F (omega arith) in
+        let nF : length F ≡ j = length_zip_part (new_p c s) l (x + k) (y + k) j (omega arith) (omega arith) in
+        let nG : length G ≡ j = length_zip_part (new_q c s) l (x + k) (y + k) j (omega arith) (omega arith) in
+        let ex = part_sets_below (sets l (x + k) F) x k (y + k) G (omega arith) ∙ part_sets_below l x k (x + k) F (omega arith) in
+        let ez = part_sets_above (sets l (x + k) F) z k (y + k) G (omega arith) ∙ part_sets_above l z k (x + k) F (omega arith) in
         rw (ex, ez)
 
 -- ---- a pair that turns
@@ -59,11 +59,11 @@ module _ (h rows m p q : ℕ) (w : List Float) (t c : Float) (w₁ w₂ : List F
   turned_pair a known e et ec b =
       let both : w₂ ≡ turn c (c ⊗ t) (rows + m) (p * h) (q * h) w =
       rw (ew₂, ew₁) (turn-rest c (c ⊗ t) rows (p * h) (q * h) w m (omega arith) (omega arith)) in
-      pair-turned h rows m p q w a known e t c et ec w₂ both b
+      pair_turned h rows m p q w a known e t c et ec w₂ both b
 
   -- the sums of the next pair are those of before V's rows
-  pub turned-sums : (a : Products) → a ≡ products rows (p * h) (q * h + h) w₁ → a ≡ products rows (p * h) ((q + 1) * h) w₂
-  turned-sums a ea =
+  pub turned_sums : (a : Products) → a ≡ products rows (p * h) (q * h + h) w₁ → a ≡ products rows (p * h) ((q + 1) * h) w₂
+  turned_sums a ea =
       let e : (q + 1) * h ≡ q * h + h = omega arith in
       let long : length w₁ ≡ length w = ap length ew₁ ∙ turn-length c (c ⊗ t) rows (p * h) (q * h) w in
       ea ∙ sym (rw (e, ew₂) (rest-keeps c (c ⊗ t) rows (p * h) (q * h) w₁ m (omega arith) (omega arith) (q * h + h) (omega arith)))

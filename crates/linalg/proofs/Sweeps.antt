@@ -12,9 +12,9 @@ module _ (h rows m : ℕ) (w b : List Float) (fitTol : Float) where
   unfolding solved answered decomposed
   sweeps-made = refl
 
-  pub sweeps-settled : (solved h rows m w b fitTol).outcome.settled ≡ (factorised_from h rows m w).settled
+  pub sweeps_settled : (solved h rows m w b fitTol).outcome.settled ≡ (factorised_from h rows m w).settled
   unfolding solved answered decomposed
-  sweeps-settled = refl
+  sweeps_settled = refl
 
   -- at the damping 0 no row is added
   pub undamped : solved_damped h rows m w b #0 fitTol ≡ solved h rows m w b fitTol

@@ -9,7 +9,7 @@ use lib.ListN.{length, get_or, take, set, length-append}
 use lib.Seq.{length-sets, take-suc, take_all}
 use Rattle.sequence.specs.Sequence.{concat_to}
 use Rattle.sequence.proofs.Parts.{sets-append}
-use Rattle.sequence.proofs.Concat.{concat-none, concat-next}
+use Rattle.sequence.proofs.Concat.{concat_none, concat_next}
 use Rattle.listing.specs.Text.{Wrote}
 
 pub wrote_none : (i : ℕ) (d : List ℕ) → i ≤ length d → Wrote [] i d d i
@@ -45,8 +45,8 @@ wrote_all text a b i k n h p e = rw (take_all k text (omega arith)) at (rw (← 
 -- ---- a loop that writes texts
 
 module _ (f : ℕ → List ℕ) where
-  pub wrote-texts-start : (i : ℕ) (d : List ℕ) → i ≤ length d → Wrote (concat_to 0 f) i d d i
-  wrote-texts-start i d h = rw (← concat-none f) (wrote_none i d h)
+  pub wrote_texts_start : (i : ℕ) (d : List ℕ) → i ≤ length d → Wrote (concat_to 0 f) i d d i
+  wrote_texts_start i d h = rw (← concat_none f) (wrote_none i d h)
 
-  pub wrote-texts-next : {a b c : List ℕ} {i j k : ℕ} (n : ℕ) → Wrote (concat_to n f) i a b j → Wrote (f n) j b c k → Wrote (concat_to (n + 1) f) i a c k
-  wrote-texts-next n p q = rw (← concat-next f n) (wrote_then p q)
+  pub wrote_texts_next : {a b c : List ℕ} {i j k : ℕ} (n : ℕ) → Wrote (concat_to n f) i a b j → Wrote (f n) j b c k → Wrote (concat_to (n + 1) f) i a c k
+  wrote_texts_next n p q = rw (← concat_next f n) (wrote_then p q)

@@ -212,8 +212,8 @@ module _ (s : List ℕ) (ok : (read_term s).refusal ≡ 0) where
         kept = ap (λ (r : Reading). r.term.name) again ∙ e;
       }
 
-  pub read-stored : Settled (read_term s).term.name
-  read-stored =
+  pub read_stored : Settled (read_term s).term.name
+  read_stored =
       let n = map capital (name_of s) in
       let k = find fixed_names n in
       let is : ((read_term s).term.name ≡ (by_known n k).term.name → Settled (by_known n k).term.name) =

@@ -17,8 +17,8 @@ use Rattle.sequence.specs.Sequence.{every, at, filled, sum_to}
 use Rattle.observation.specs.Observation.{pair_of}
 use Rattle.float.proofs.Zero.{zero_finite}
 use Rattle.sequence.proofs.Tests.{every-snoc}
-use Rattle.sequence.proofs.Parts.{part-take, part-sets-same, part-sets_below}
-use Rattle.sequence.proofs.Fills.{filled_at, at-filled, take-filled, table_front, filled-again, filled-own}
+use Rattle.sequence.proofs.Parts.{part-take, part_sets_same, part_sets_below}
+use Rattle.sequence.proofs.Fills.{filled_at, at-filled, take-filled, table_front, filled_again, filled_own}
 use Rattle.sequence.proofs.Sums.{sum_same}
 use Rattle.terms.specs.Names.{same, read_term}
 use Rattle.terms.specs.Questions.{first_no}
@@ -31,10 +31,10 @@ use Rattle.model.specs.Correction.{point_refusal, corrected, correction_at, corr
 use Rattle.model.specs.declared.PointingModel.{PointingModel}
 use Rattle.model.specs.declared.Breakdown.{Breakdown}
 use Rattle.model.specs.declared.Correction.TheVariants.{Given}
-use Rattle.sequence.proofs.Tests.{some-last, some-stop}
+use Rattle.sequence.proofs.Tests.{some_last, some_stop}
 use Rattle.terms.proofs.Same.{same_itself}
 use Rattle.model.proofs.Laws.{Passed, passed, passes}
-use Rattle.model.proofs.Stored.{read-stored}
+use Rattle.model.proofs.Stored.{read_stored}
 
 -- ---- a model that passes every question
 
@@ -72,10 +72,10 @@ abbrev with_flags : PointingModel → List Bool → PointingModel
 with_flags m l = record { names = m.names; coefficients = m.coefficients; pier_sensitive = l; count = m.count }
 
 flagged_again : (m : PointingModel) → flagged (flagged m) ≡ flagged m
-flagged_again m = ap (with_flags m) (filled-again (pier_at m.names) m.count m.pier_sensitive)
+flagged_again m = ap (with_flags m) (filled_again (pier_at m.names) m.count m.pier_sensitive)
 
 flagged_equal : (m : PointingModel) → m.count ≤ length m.pier_sensitive → FlagsAreNames m → flagged m ≡ m
-flagged_equal m h e = ap (with_flags m) (filled-own (pier_at m.names) m.pier_sensitive false m.count h e)
+flagged_equal m h e = ap (with_flags m) (filled_own (pier_at m.names) m.pier_sensitive false m.count h e)
 
 -- ---- the sum of the breakdown, in order, is the correction, and its flags are those of the names
 
@@ -90,17 +90,17 @@ module _ (n : ℕ) (names : List ℕ) (coefficients sheet : List Float) (sinLat 
   abbrev parts : Breakdown
   parts = breakdown_at n names coefficients sheet sinLat cosLat pier
 
-  pub breakdown-sums : parts.refusal ≡ 0
+  pub breakdown_sums : parts.refusal ≡ 0
       → correction_at n names coefficients sheet sinLat cosLat pier ≡ Given (pair_of (sum_to n (at parts.dh)) (sum_to n (at parts.dd)))
   unfolding breakdown_at correction_at corrected broken_down
-  breakdown-sums e =
+  breakdown_sums e =
       rw (eq-eqb _ 0 (given_yes (point_refusal n names coefficients sheet sinLat cosLat pier) _ e))
       (ap₂ (λ (x y : Float). Given (pair_of x y)) (sum_same n _ _ (λ i h. sym (at-filled _ n i no_numbers h)))
       (sum_same n _ _ (λ i h. sym (at-filled _ n i no_numbers h))))
 
-  pub breakdown-flags : parts.refusal ≡ 0 → (i : ℕ) → i < n → get_or parts.pier_sensitive i false ≡ pier_at names i
+  pub breakdown_flags : parts.refusal ≡ 0 → (i : ℕ) → i < n → get_or parts.pier_sensitive i false ≡ pier_at names i
   unfolding breakdown_at broken_down
-  breakdown-flags e i h =
+  breakdown_flags e i h =
       rw (eq-eqb _ 0 (given_yes (point_refusal n names coefficients sheet sinLat cosLat pier) _ e)) (filled_at (pier_at names) n i no_flags false h)
 
 -- ---- a correction after an accepted setting uses the new coefficients
@@ -132,9 +132,9 @@ module _ (m : PointingModel) (cs : List Float) (accepted : (set_coefficients m c
       let one_each = eqb-true (length cs) m.count set-facts.rest_counted in
       take-filled (at cs) m.count m.coefficients ∙ table_front m.count cs (omega (arith, one_each)) ∙ take_all m.count cs (omega (arith, one_each))
 
-  pub set-passes : Passes (set_coefficients m cs).model
+  pub set_passes : Passes (set_coefficients m cs).model
   unfolding new-model
-  set-passes =
+  set_passes =
       let p = set-facts in
       rw set_is
       (passes_with new-model true true
@@ -148,14 +148,14 @@ module _ (m : PointingModel) (cs : List Float) (accepted : (set_coefficients m c
         named = p.named;
       }))
 
-  pub set-flags : FlagsAreNames (set_coefficients m cs).model
+  pub set_flags : FlagsAreNames (set_coefficients m cs).model
   unfolding new-model
-  set-flags = rw set_is (flagged_flags (with_coefficients m cs))
+  set_flags = rw set_is (flagged_flags (with_coefficients m cs))
 
-  pub applied-after-set : (sheet : List Float) (sinLat cosLat : Float) (pier : ℕ)
+  pub applied_after_set : (sheet : List Float) (sinLat cosLat : Float) (pier : ℕ)
       → correction (set_coefficients m cs).model sheet sinLat cosLat pier ≡ correction_at m.count (term_names m) cs sheet sinLat cosLat pier
   unfolding new-model
-  applied-after-set sheet sinLat cosLat pier =
+  applied_after_set sheet sinLat cosLat pier =
       ap (λ (x : PointingModel). correction x sheet sinLat cosLat pier) set_is
       ∙ ap (λ (l : List Float). correction_at m.count (term_names m) l sheet sinLat cosLat pier) front
 
@@ -170,14 +170,14 @@ again m name p r h = rw (eq-eqb _ 0 p, eq-eqb (read_term name).refusal 0 r, h)
 -- so a name of a term that is there changes nothing else, however either is spelled, and also where the model is full
 module _ (m : PointingModel) (name : List ℕ) (i : ℕ) (p : Passes m) (l : length name ≡ 16) (r : (read_term name).refusal ≡ 0) (h : i < m.count)
     (e : (read_term (slot m.names i)).term.name ≡ (read_term name).term.name) where
-  pub there-already : add_term m name ≡ changed 0 (flagged m)
-  there-already =
+  pub there_already : add_term m name ≡ changed 0 (flagged m)
+  there_already =
       again m name (passes_with m _ true (also m true true _ true (passed_with m true true p) (eq-eqb (length name) 16 l) refl)) r
-      (sym (some-stop _ i m.count h (ap (λ (l : List ℕ). same l (read_term name).term.name) e ∙ same_itself (read_term name).term.name)))
+      (sym (some_stop _ i m.count h (ap (λ (l : List ℕ). same l (read_term name).term.name) e ∙ same_itself (read_term name).term.name)))
 
   -- and nothing at all where the model has its names' flags
-  pub there-equal : length m.pier_sensitive ≡ 32 → FlagsAreNames m → add_term m name ≡ changed 0 m
-  there-equal long f = there-already ∙ ap (changed 0) (flagged_equal m (omega (arith, long, (passed_with m true true p).few)) f)
+  pub there_equal : length m.pier_sensitive ≡ 32 → FlagsAreNames m → add_term m name ≡ changed 0 m
+  there_equal long f = there_already ∙ ap (changed 0) (flagged_equal m (omega (arith, long, (passed_with m true true p).few)) f)
 
 -- the lengths are those of the arrays
 module _ (m : PointingModel) (name : List ℕ) (bytes : length m.names ≡ 512) (numbers : length m.coefficients ≡ 32)
@@ -218,7 +218,7 @@ module _ (m : PointingModel) (name : List ℕ) (bytes : length m.names ≡ 512) 
     longer = with_term m stored
 
     slot-last : slot longer.names m.count ≡ stored
-    slot-last = part-sets-same m.names (16 * m.count) 16 stored (read-stored name add-facts.1).sixteen (omega (arith, room))
+    slot-last = part_sets_same m.names (16 * m.count) 16 stored (read_stored name add-facts.1).sixteen (omega (arith, room))
 
     -- the slots of the longer model among its terms' names, and those of the model
     slot-longer : (i : ℕ) → i < m.count + 1 → slot (term_names longer) i ≡ slot longer.names i
@@ -227,7 +227,7 @@ module _ (m : PointingModel) (name : List ℕ) (bytes : length m.names ≡ 512) 
 
     slot-below : (i : ℕ) → i < m.count → slot (term_names longer) i ≡ slot (term_names m) i
     slot-below i h =
-        slot-longer i (omega arith) ∙ part-sets_below m.names (16 * i) 16 (16 * m.count) stored (omega arith)
+        slot-longer i (omega arith) ∙ part_sets_below m.names (16 * i) 16 (16 * m.count) stored (omega arith)
         ∙ sym (part-take m.names (16 * i) 16 (16 * m.count) (omega arith) (omega (arith, room)))
 
     longer-finite : every is_finite (term_coefficients longer) ≡ true
@@ -240,7 +240,7 @@ module _ (m : PointingModel) (name : List ℕ) (bytes : length m.names ≡ 512) 
         let front : first_of m.count (λ i. (read_term (slot (term_names longer) i)).refusal) ≡ 0 =
         first_same m.count _ _ (λ i h. ap (λ (l : List ℕ). (read_term l).refusal) (slot-below i h)) ∙ before.named in
         let last : slot (term_names longer) m.count ≡ stored = slot-longer m.count (omega arith) ∙ slot-last in
-        first_step _ m.count _ front (sym (ap (λ (l : List ℕ). (read_term l).refusal) last)) (read-stored name add-facts.1).read
+        first_step _ m.count _ front (sym (ap (λ (l : List ℕ). (read_term l).refusal) last)) (read_stored name add-facts.1).read
 
     longer-passes : PassedWith longer true true
     longer-passes =
@@ -257,8 +257,8 @@ module _ (m : PointingModel) (name : List ℕ) (bytes : length m.names ≡ 512) 
     longer-has : has_name longer.names (m.count + 1) stored ≡ true
     longer-has =
         rw (add-one m.count)
-        (some-last _ m.count
-        (ap (λ (l : List ℕ). same (read_term l).term.name stored) slot-last ∙ ap (λ (l : List ℕ). same l stored) (read-stored name add-facts.1).kept
+        (some_last _ m.count
+        (ap (λ (l : List ℕ). same (read_term l).term.name stored) slot-last ∙ ap (λ (l : List ℕ). same l stored) (read_stored name add-facts.1).kept
         ∙ same_itself stored))
 
   abbrev Has : PointingModel → Type 0
@@ -271,22 +271,22 @@ module _ (m : PointingModel) (name : List ℕ) (bytes : length m.names ≡ 512) 
   known : Has (add_term m name).model
   known = rw add_is (passes-and-has there refl)
 
-  pub added-passes : Passes (add_term m name).model
-  added-passes = passes_with (add_term m name).model true true known.0
+  pub added_passes : Passes (add_term m name).model
+  added_passes = passes_with (add_term m name).model true true known.0
 
-  pub added-flags : FlagsAreNames (add_term m name).model
-  added-flags = rw add_is (flagged_flags (cond there m (with_term m stored)))
+  pub added_flags : FlagsAreNames (add_term m name).model
+  added_flags = rw add_is (flagged_flags (cond there m (with_term m stored)))
 
   flagged-already : flagged (add_term m name).model ≡ (add_term m name).model
   flagged-already = rw add_is (flagged_again (cond there m (with_term m stored)))
 
   -- nor does any spelling of the same term
-  pub added-again : (other : List ℕ) → length other ≡ 16 → read_term other ≡ read_term name
+  pub added_again : (other : List ℕ) → length other ≡ 16 → read_term other ≡ read_term name
       → add_term (add_term m name).model other ≡ changed 0 (add_term m name).model
-  added-again other l e =
+  added_again other l e =
       again (add_term m name).model other
       (passes_with (add_term m name).model _ true (also (add_term m name).model true true _ true known.0 (eq-eqb (length other) 16 l) refl))
       (ap (λ r. r.refusal) e ∙ add-facts.1) (rw e known.1) ∙ ap (changed 0) flagged-already
 
   pub added_twice : add_term (add_term m name).model name ≡ changed 0 (add_term m name).model
-  added_twice = added-again name (eqb-true _ 16 before.rest_counted) refl
+  added_twice = added_again name (eqb-true _ 16 before.rest_counted) refl

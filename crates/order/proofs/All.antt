@@ -37,9 +37,9 @@ module _ (P : ℕ → Type 0) where
   all_set (y ∷ l) zero x a h = (h, a.1)
   all_set (y ∷ l) (suc i) x a h = (a.0, all_set l i x a.1 h)
 
-  pub all-sets : (l : List ℕ) (i : ℕ) (vs : List ℕ) → All P l → All P vs → All P (sets l i vs)
-  all-sets l i [] a b = a
-  all-sets l i (v ∷ vs) a b = all-sets (set l i v) (suc i) vs (all_set l i v a b.0) b.1
+  pub all_sets : (l : List ℕ) (i : ℕ) (vs : List ℕ) → All P l → All P vs → All P (sets l i vs)
+  all_sets l i [] a b = a
+  all_sets l i (v ∷ vs) a b = all_sets (set l i v) (suc i) vs (all_set l i v a b.0) b.1
 
 pub all_le : (m n : ℕ) (l : List ℕ) → m ≤ n → AllBelow m l → AllBelow n l
 all_le m n [] h a = tt

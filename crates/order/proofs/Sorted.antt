@@ -158,26 +158,26 @@ module _ (σ : List Float) where
 
 module _ (m : ℕ) (σ : List Float) where
   -- it is the columns 0 to m - 1, each once
-  pub ordered-permutes : Perm (ordered m σ) (table m (λ j. j))
-  ordered-permutes = permutes σ m (table m (λ j. j)) (table-length (λ j. j) m)
+  pub ordered_permutes : Perm (ordered m σ) (table m (λ j. j))
+  ordered_permutes = permutes σ m (table m (λ j. j)) (table-length (λ j. j) m)
 
   pub ordered-length : length (ordered m σ) ≡ m
   ordered-length = length-order σ m (table m (λ j. j)) (table-length (λ j. j) m)
 
-  pub ordered-below : AllBelow m (ordered m σ)
-  ordered-below = all-order σ (λ x. x < m) m (table m (λ j. j)) (table-length (λ j. j) m) (all_up_to m m (omega arith))
+  pub ordered_below : AllBelow m (ordered m σ)
+  ordered_below = all-order σ (λ x. x < m) m (table m (λ j. j)) (table-length (λ j. j) m) (all_up_to m m (omega arith))
 
   -- the value that is taken i-th
   abbrev pub taken : ℕ → Float
   taken i = at σ (get_or (ordered m σ) i 0)
 
   -- no later value is strictly greater, NaNs included
-  pub never-greater : (i j : ℕ) → i < j → j < m → lt (taken i) (taken j) ≡ false
-  never-greater i j h l = falls σ m (table m (λ j. j)) (table-length (λ j. j) m) i j h l
+  pub never_greater : (i j : ℕ) → i < j → j < m → lt (taken i) (taken j) ≡ false
+  never_greater i j h l = falls σ m (table m (λ j. j)) (table-length (λ j. j) m) i j h l
 
   -- where no value is a NaN, which alone doesn't equal itself, each is at most those before it
   pub descending : ((j : ℕ) → j < m → eq (at σ j) (at σ j) ≡ true) → (i j : ℕ) → i < j → j < m → le (taken j) (taken i) ≡ true
   descending numbers i j h l =
       let number : (k : ℕ) → k < m → eq (taken k) (taken k) ≡ true =
-      λ k q. numbers (get_or (ordered m σ) k 0) (all_get_d (λ x. x < m) (ordered m σ) k ordered-below (rw ordered-length q)) in
-      at_most (taken i) (taken j) (number i (omega arith)) (number j l) (never-greater i j h l)
+      λ k q. numbers (get_or (ordered m σ) k 0) (all_get_d (λ x. x < m) (ordered m σ) k ordered_below (rw ordered-length q)) in
+      at_most (taken i) (taken j) (number i (omega arith)) (number j l) (never_greater i j h l)

@@ -15,7 +15,7 @@ use Rattle.design.proofs.Indices.{up_to-length}
 use Rattle.validate.specs.Questions.{scratch_needed, asked, Ready}
 use Rattle.validate.specs.declared.Asked.{Asked}
 use Rattle.validate.specs.declared.Asked.TheVariants.{Pass, No}
-use Rattle.validate.proofs.InOrder.{no-has-number}
+use Rattle.validate.proofs.InOrder.{no_has_number}
 use Rattle.outcome.specs.Outcome.{Outcome, decided}
 use Rattle.outcome.specs.Scratch.{count_of, height_in}
 
@@ -27,18 +27,18 @@ scratch_enough m n = let e : (2 * n + 3 * m) * m ≡ m * (2 * n + 2 * m) + m * m
 
 module _ (l : FitInputs) (r : RunInputs) (need : ℕ) (is : r ≡ run_inputs_of l)
     (enough : need ≡ scratch_needed (length l.coefficients) (length l.dh)) where
-  pub run-ready : (b : Buffers) → Ready l (sizes_of b)
+  pub run_ready : (b : Buffers) → Ready l (sizes_of b)
       → Counted r × (8 * count_of r + r.m * height_in r ≤ need) × (need ≤ length b.scratch) × (r.m ≤ length b.coefficients)
       × (r.m ≤ length b.change) × (r.m ≤ length b.sigma) × (3 * count_of r ≤ length b.diagnostics)
-  run-ready b p =
+  run_ready b p =
       let m = length l.coefficients in
       let n = length l.dh in
       rw (is, enough, up_to-length n)
       (p.counted, scratch_enough m n, p.scratch_room, p.coefficients_room, p.change-room, p.sigma_room, p.diagnostics_room)
 
   -- the fit F of its run
-  pub run-fit : (F : Run → ℕ → Outcome) (x : Outcome) → x ≡ F (run_from r) need → x ≡ F (run_of l) (scratch_needed (length l.coefficients) (length l.dh))
-  run-fit F x e = rw (is, enough) at e
+  pub run_fit : (F : Run → ℕ → Outcome) (x : Outcome) → x ≡ F (run_from r) need → x ≡ F (run_of l) (scratch_needed (length l.coefficients) (length l.dh))
+  run_fit F x e = rw (is, enough) at e
 
 -- ---- by the answer r of its questions, where its fit is x
 
@@ -55,9 +55,9 @@ module _ (l : FitInputs) (o : IterOptions) (b : Buffers) (x : Outcome) where
   answered r a q e = ap (λ y. decided y x b) (sym e ∙ q)
 
   -- the number of a refusal is never 0
-  pub refusal-has-number : (done : FitResult) → x.answer ≡ Done done → (k : ℕ) → (decided (asked l o (sizes_of b)) x b).answer ≡ Refused k → k ≡ 0 → ⊥
-  refusal-has-number done e k q z = by (asked l o (sizes_of b)) refl q
+  pub refusal_has_number : (done : FitResult) → x.answer ≡ Done done → (k : ℕ) → (decided (asked l o (sizes_of b)) x b).answer ≡ Refused k → k ≡ 0 → ⊥
+  refusal_has_number done e k q z = by (asked l o (sizes_of b)) refl q
     where
       by : (a : Asked) → a ≡ asked l o (sizes_of b) → (decided a x b).answer ≡ Refused k → ⊥
       by Pass i q = false≢true (ap refused (sym e ∙ q))
-      by (No j) i q = no-has-number l o (sizes_of b) j i (ap number_of q ∙ z)
+      by (No j) i q = no_has_number l o (sizes_of b) j i (ap number_of q ∙ z)

@@ -5,7 +5,7 @@ use mathlib.Core.Path.{◌≡◌, refl}
 use mathlib.Core.List.{List, [], ◌∷◌, ◌++◌}
 use lib.ListN.{length, set, drop}
 use lib.Ieee.{Float}
-use Rattle.sequence.proofs.Concat.{over-next}
+use Rattle.sequence.proofs.Concat.{over_next}
 use Rattle.solver.specs.declared.ObsDiagnostic.{ObsDiagnostic}
 use Rattle.outcome.specs.Outcome.{diagnostic_numbers}
 
@@ -16,4 +16,4 @@ pub diagnostic_numbers_next : (f : ℕ → ObsDiagnostic) (k : ℕ) (d s : List 
 diagnostic_numbers_next f k d s v h e q =
     let one : 3 * k + 1 ≡ suc (3 * k) = omega arith in
     let two : 3 * k + 2 ≡ suc (suc (3 * k)) = omega arith in
-    rw (one, two, q) (over-next (λ i. (f i).residual_sky ∷ (f i).leverage ∷ (f i).studentized ∷ []) 3 (λ i. refl) k d s h e)
+    rw (one, two, q) (over_next (λ i. (f i).residual_sky ∷ (f i).leverage ∷ (f i).studentized ∷ []) 3 (λ i. refl) k d s h e)

@@ -35,14 +35,14 @@ module _ {A : Type 0} {l ys : List A} {k : ℕ} (r : Renewed l ys k) where
   front_fits = rw front_long r.room
 
   -- what is lent once more
-  pub front-again : take k (renewed l ys k) ≡ ys
-  front-again = take_at ys (drop k l) k count
+  pub front_again : take k (renewed l ys k) ≡ ys
+  front_again = take_at ys (drop k l) k count
 
-  pub front-count : length (take k (renewed l ys k)) ≡ k
-  front-count = ap length front-again ∙ count
+  pub front_count : length (take k (renewed l ys k)) ≡ k
+  front_count = ap length front_again ∙ count
 
-  pub front-part : (i n : ℕ) → i + n ≤ k → part (renewed l ys k) i n ≡ part ys i n
-  front-part i n h = sym (part-take (renewed l ys k) i n k h front_fits) ∙ ap (λ (u : List A). part u i n) front-again
+  pub front_part : (i n : ℕ) → i + n ≤ k → part (renewed l ys k) i n ≡ part ys i n
+  front_part i n h = sym (part-take (renewed l ys k) i n k h front_fits) ∙ ap (λ (u : List A). part u i n) front_again
 
   -- what was not lent
   pub front_rest : drop k (renewed l ys k) ≡ drop k l
@@ -60,4 +60,4 @@ front_zeros F l ys zs k room e q =
     let n : length (take k l) ≡ k = length-take-le k l room in
     let z : ys ≡ replicate k #0 = rw n at e in
     let r : Renewed l ys k = record { room = room; kept = ap length e ∙ length-replicate (length (take k l)) #0 } in
-    rw (q, front_rest r, front-again r, z)
+    rw (q, front_rest r, front_again r, z)

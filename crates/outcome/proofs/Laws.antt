@@ -11,7 +11,7 @@ use lib.Ieee.{Float, le}
 use Rattle.limits.specs.Limits.{max_terms, max_stars}
 use Rattle.float.specs.Float.{#0}
 use Rattle.sequence.specs.Sequence.{part, Only}
-use Rattle.sequence.proofs.Parts.{length_part, part-sets-same, length-zip-part}
+use Rattle.sequence.proofs.Parts.{length_part, part_sets_same, length_zip_part}
 use Rattle.linalg.specs.declared.SolveOutcome.{SolveOutcome}
 use Rattle.linalg.specs.Linalg.{Placed, leverage_of, in_order, Solved, answered, solved, solved_damped}
 use Rattle.linalg.proofs.Laws.{in_order_placed}
@@ -22,7 +22,7 @@ use Rattle.solver.specs.declared.SigmaBy.{SigmaBy}
 use Rattle.solver.specs.Call.{Buffers, buffers}
 use Rattle.design.specs.Design.{RunInputs, run_from, scattered}
 use Rattle.design.specs.Counted.{Below}
-use Rattle.design.proofs.Runs.{count-is}
+use Rattle.design.proofs.Runs.{count_is}
 use Rattle.stats.specs.declared.Sky.{Sky}
 use Rattle.stats.specs.Stats.{degrees, sky_from, divisor, variance, sigma_at}
 use Rattle.outcome.specs.Outcome.{sigma_of, diagnostic_from, diagnostic_of, diagnostic_numbers, answer_of, outcome, finished}
@@ -38,8 +38,8 @@ taken_from f w w₁ w₂ p x y n low room is only e =
     let long : length w₁ ≡ length w = only.long in
     let old : part w₁ y n ≡ part w y n = only.above y n (omega arith) in
     let z = zip_with f (part w₁ y n) (part w₁ x n) in
-    let count : length z ≡ n = length-zip-part f w₁ y x n (omega arith) (omega arith) in
-    ap (λ (v : List Float). part v x n) e ∙ part-sets-same w₁ x n z count (omega arith) ∙ rw (old, is)
+    let count : length z ≡ n = length_zip_part f w₁ y x n (omega arith) (omega arith) in
+    ap (λ (v : List Float). part v x n) e ∙ part_sets_same w₁ x n z count (omega arith) ∙ rw (old, is)
 
 -- ---- the last steps: the parts of w that are lent
 
@@ -117,4 +117,4 @@ pub finishes : (l : RunInputs) (by : SigmaBy) (need : ℕ) (b : Buffers) (w set 
     → outcome (Done r) (buffers out' change' sigma' diagnostics' scratch') ≡ finished (run_from l) by need b set change s res under report
 unfolding finished sigma_of diagnostic_of
 finishes l by need b w set change res under out' change' sigma' diagnostics' scratch' o s sky report r es er ek eo ec ea ei ed ez =
-    rw (← es, ← er, ← ek, ← count-is l, ← eo, ← ec, ← ea, ← ei, ← ed, ← ez)
+    rw (← es, ← er, ← ek, ← count_is l, ← eo, ← ec, ← ea, ← ei, ← ed, ← ez)

@@ -14,8 +14,8 @@ use Rattle.design.specs.Design.{RunInputs, run_inputs, run_from, up_to, collect_
 use Rattle.design.specs.Counted.{Counted}
 use Rattle.design.specs.Matrix.{matrix_of, FilledUpTo, HasRoom}
 use Rattle.design.proofs.Indices.{up_to-length}
-use Rattle.design.proofs.Matrix.{design-stacked}
-use Rattle.design.proofs.Runs.{with_terms, count-is, sky-columns-are, seen, named, free-room}
+use Rattle.design.proofs.Matrix.{design_stacked}
+use Rattle.design.proofs.Runs.{with_terms, count_is, sky_columns_are, seen, named, free_room}
 use Rattle.stats.specs.declared.Sky.{Sky}
 use Rattle.stats.specs.Stats.{sum_sq_sky, sky_of_sum, sky_from}
 use Rattle.stats.proofs.Laws.{sum_sky_same}
@@ -30,38 +30,38 @@ fits_front l m need w e c room fits = rw e (record { counted = c; room = rw (len
 pub fits_free : (l : RunInputs) (w : List Float) → Fits l w → (length l.free ≤ max_terms) × (8 * count_of l + length l.free * height_in l ≤ length w)
 fits_free l w f =
     let c = f.counted in
-    (omega (arith, c.free_few, c.terms), omega (arith, free-room l c (height_in l), f.room))
+    (omega (arith, c.free_few, c.terms), omega (arith, free_room l c (height_in l), f.room))
 
 -- of a list v as long: what `build_design_matrix` requires, and what it leaves as the solver reads it
 module _ (l : RunInputs) (w v : List Float) (f : Fits l w) (e : length v ≡ length w) where
-  pub columns-ready : HasRoom l.names l.free l.pier l.sheets l.used (8 * count_of l) (height_in l) v
-  columns-ready =
+  pub columns_ready : HasRoom l.names l.free l.pier l.sheets l.used (8 * count_of l) (height_in l) v
+  columns_ready =
       let c = f.counted in
       record { named = named l c; seen = seen l c; rows_fit = omega arith; behind = omega arith; columns_fit = rw e (fits_free l w f).1 }
 
-  pub columns-built : (k : Float) (v' : List Float)
+  pub columns_built : (k : Float) (v' : List Float)
       → FilledUpTo (matrix_of l.names l.free l.pier l.sheets l.used l.settings k v) (8 * count_of l) (height_in l) (length l.free) v v'
       → (columns_in l v'
       ≡ stacked (height_in l) (map (weighed_at k (sky_in l v) l.settings (sights_at l.pier l.sheets l.used) l.names) l.free))
       × Only (8 * count_of l) (length l.free * height_in l) v v'
-  columns-built k v' p =
-      (design-stacked l.names l.free l.pier l.sheets l.used l.settings k (8 * count_of l) (height_in l) v v' columns-ready p, p.outside)
+  columns_built k v' p =
+      (design_stacked l.names l.free l.pier l.sheets l.used l.settings k (8 * count_of l) (height_in l) v v' columns_ready p, p.outside)
 
 module _ (l : RunInputs) where
-  pub weighed-are : (k : Float) (b : List Float)
+  pub weighed_are : (k : Float) (b : List Float)
       → weighed_at k b l.settings (sights_at l.pier l.sheets l.used) l.names ≡ (λ (j : ℕ). weighing k b (sky_of (run_from l) j))
-  weighed-are k b = ap {B = ℕ → List Float} (λ (a : ℕ → List Float) (j : ℕ). weighing k b (a j)) (sky-columns-are l)
+  weighed_are k b = ap {B = ℕ → List Float} (λ (a : ℕ → List Float) (j : ℕ). weighing k b (a j)) (sky_columns_are l)
 
   -- where k is 0 nothing is weighed
-  pub unweighed-are : (b : List Float) → weighed_at #0 b l.settings (sights_at l.pier l.sheets l.used) l.names ≡ sky_of (run_from l)
+  pub unweighed_are : (b : List Float) → weighed_at #0 b l.settings (sights_at l.pier l.sheets l.used) l.names ≡ sky_of (run_from l)
   unfolding weighing lt of_bits
-  unweighed-are b = sky-columns-are l
+  unweighed_are b = sky_columns_are l
 
   -- what residuals r come to on the sky, by their sum
   pub sky_is : (r : List Float) (sum : Float) (sky : Sky) → sum ≡ sum_sq_sky (sights_at [] l.sheets l.used) r
       → sky ≡ sky_of_sum (count_of l) (length l.free) sum → sky ≡ sky_from (run_from l).stars (length l.free) r
   unfolding sky_from
-  sky_is r sum sky e q = rw (q, e, sum_sky_same l.dh l.dd l.pier l.sheets l.used r, count-is l) refl
+  sky_is r sum sky e q = rw (q, e, sum_sky_same l.dh l.dd l.pier l.sheets l.used r, count_is l) refl
 
 -- a call's run, where the indices of its free terms and of its stars begin longer lists ts and us
 pub listed_is : (l : FitInputs) (k : ℕ) (ts d us e : List ℕ) → k ≡ length (collect_indices l.fixed) → ts ≡ collect_indices l.fixed ++ drop k d

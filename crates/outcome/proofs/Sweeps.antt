@@ -5,7 +5,7 @@ use mathlib.Core.Bool.{true}
 use mathlib.Core.List.{List}
 use lib.Ieee.{Float}
 use Rattle.jacobi.specs.Jacobi.{Factorised, factorised, SweepsInLimit}
-use Rattle.jacobi.proofs.Counts.{in-limit, one_column}
+use Rattle.jacobi.proofs.Counts.{in_limit, one_column}
 use Rattle.solver.specs.declared.Fit.{Fit}
 use Rattle.solver.specs.declared.Fit.TheVariants.{Done, Refused}
 use Rattle.solver.specs.declared.FitResult.{FitResult}
@@ -30,7 +30,7 @@ tells a y b done x f is told e = rw e at (by a)
 
 module _ (h rows m : ℕ) (w : List Float) (x : FitResult) (told : Tells (factorised h rows m w) x) where
   pub limited : SweepsInLimit x.sweeps x.settled
-  limited = rw (told.sweeps, told.settled) (in-limit h rows m w)
+  limited = rw (told.sweeps, told.settled) (in_limit h rows m w)
 
   -- a single column makes one sweep, without a turn
   pub one_free : m ≡ 1 → (x.sweeps ≡ 1) × (x.settled ≡ true)

@@ -35,25 +35,25 @@ module _ (s : List ℕ) where
   unfolding file_no
   no_length h = rw (lt-leb 9 (length s) h)
 
-  pub no-mark : 9 ≤ length s → same (mark_of s) (ascii "PMF") ≡ false → 15 ≡ file_no s
+  pub no_mark : 9 ≤ length s → same (mark_of s) (ascii "PMF") ≡ false → 15 ≡ file_no s
   unfolding file_no
-  no-mark h e = rw (le-leb 9 (length s) h, e)
+  no_mark h e = rw (le-leb 9 (length s) h, e)
 
-  pub no-version : 9 ≤ length s → same (mark_of s) (ascii "PMF") ≡ true → (version_of s ≡ 1 → ⊥) → 15 ≡ file_no s
+  pub no_version : 9 ≤ length s → same (mark_of s) (ascii "PMF") ≡ true → (version_of s ≡ 1 → ⊥) → 15 ≡ file_no s
   unfolding file_no
-  no-version h e v = rw (le-leb 9 (length s) h, e, ne_eqb (version_of s) 1 v)
+  no_version h e v = rw (le-leb 9 (length s) h, e, ne_eqb (version_of s) 1 v)
 
   pub no_mode : 9 ≤ length s → same (mark_of s) (ascii "PMF") ≡ true → version_of s ≡ 1 → mode_known (mode_of s) ≡ false → 15 ≡ file_no s
   unfolding file_no
   no_mode h e v k = rw (le-leb 9 (length s) h, e, eq-eqb (version_of s) 1 v, k)
 
-  pub no-terms : Header s → file_terms < term_count s → 1 ≡ file_no s
+  pub no_terms : Header s → file_terms < term_count s → 1 ≡ file_no s
   unfolding file_no
-  no-terms h m = rw (le-leb 9 (length s) h.long, h.mark, eq-eqb (version_of s) 1 h.version, h.mode, lt-leb (term_count s) file_terms m)
+  no_terms h m = rw (le-leb 9 (length s) h.long, h.mark, eq-eqb (version_of s) 1 h.version, h.mode, lt-leb (term_count s) file_terms m)
 
-  pub no-stars : Header s → term_count s ≤ file_terms → file_stars < star_count s → 1 ≡ file_no s
+  pub no_stars : Header s → term_count s ≤ file_terms → file_stars < star_count s → 1 ≡ file_no s
   unfolding file_no
-  no-stars h m n =
+  no_stars h m n =
       rw (le-leb 9 (length s) h.long, h.mark, eq-eqb (version_of s) 1 h.version, h.mode, le-leb (term_count s) file_terms m, lt-leb (star_count s) file_stars n)
 
   pub no_size : Header s → term_count s ≤ file_terms → star_count s ≤ file_stars → (length s ≡ file_size (term_count s) (star_count s) → ⊥) → 15 ≡ file_no s

@@ -53,16 +53,16 @@ unfolding room scratch_needed
 room_sizes_lem = rw (length-replicate file_terms #0, length-replicate (3 * file_stars) #0, length-replicate (scratch_needed file_terms file_stars) #0)
 
 module _ (mode : ℕ) (l : FitInputs) (o : IterOptions) (r : Asked) (e : r ≡ asked l o room_sizes) where
-  pub asked-no : (k : ℕ) → r ≡ No k → outcome_text l (outcome_of mode l o) ≡ refusal_text k
+  pub asked_no : (k : ℕ) → r ≡ No k → outcome_text l (outcome_of mode l o) ≡ refusal_text k
   unfolding outcome_of
-  asked-no k q = rw (room_sizes_lem, ← e, q)
+  asked_no k q = rw (room_sizes_lem, ← e, q)
 
-  pub asked-pass : r ≡ Pass → outcome_text l (outcome_of mode l o) ≡ outcome_text l (fit_of mode l o room)
+  pub asked_pass : r ≡ Pass → outcome_text l (outcome_of mode l o) ≡ outcome_text l (fit_of mode l o room)
   unfolding outcome_of
-  asked-pass q = rw (room_sizes_lem, ← e, q)
+  asked_pass q = rw (room_sizes_lem, ← e, q)
 
-  pub asked-ready : r ≡ Pass → Ready l (sizes_of room)
-  asked-ready q = rw room_sizes_lem (ready l o room_sizes r q e)
+  pub asked_ready : r ≡ Pass → Ready l (sizes_of room)
+  asked_ready q = rw room_sizes_lem (ready l o room_sizes r q e)
 
 module _ {a b c d w : List Float} (ea : a ≡ replicate file_terms #0) (eb : b ≡ replicate file_terms #0) (ec : c ≡ replicate file_terms #0)
     (ed : d ≡ replicate (3 * file_stars) #0) (ew : w ≡ replicate (scratch_needed file_terms file_stars) #0) where
@@ -71,14 +71,14 @@ module _ {a b c d w : List Float} (ea : a ≡ replicate file_terms #0) (eb : b �
   unfolding room
   room-is = rw (ea, eb, ec, ed, ew)
 
-  pub room-ready : (l : FitInputs) → Ready l (sizes_of room) → Ready l (sizes_of (buffers a b c d w))
-  room-ready l h = subst (λ (x : Buffers). Ready l (sizes_of x)) (sym room-is) h
+  pub room_ready : (l : FitInputs) → Ready l (sizes_of room) → Ready l (sizes_of (buffers a b c d w))
+  room_ready l h = subst (λ (x : Buffers). Ready l (sizes_of x)) (sym room-is) h
 
   -- the text of a fit made in them
-  pub fit-text : (mode : ℕ) (l : FitInputs) (o : IterOptions) {a' b' c' d' w' : List Float} (r : FitResult)
+  pub fit_text_lem : (mode : ℕ) (l : FitInputs) (o : IterOptions) {a' b' c' d' w' : List Float} (r : FitResult)
       → outcome (Done r) (buffers a' b' c' d' w') ≡ fit_of mode l o (buffers a b c d w)
       → outcome_text l (fit_of mode l o room) ≡ fit_text l.names (length l.coefficients) a' c' r
-  fit-text mode l o r e = ap (outcome_text l) (ap (fit_of mode l o) (sym room-is) ∙ sym e)
+  fit_text_lem mode l o r e = ap (outcome_text l) (ap (fit_of mode l o) (sym room-is) ∙ sym e)
 
 -- ---- the text in a buffer
 

@@ -10,11 +10,11 @@ use lib.ListN.{length, set, length-set}
 use lib.Seq.{sets}
 use lib.Ieee.{Float, nan}
 use Rattle.sequence.specs.Sequence.{part, at, Beside}
-use Rattle.sequence.proofs.Parts.{zip-part, length-zip-part, sets-snoc, getD-sets-below, getD-sets-above}
+use Rattle.sequence.proofs.Parts.{zip-part, length_zip_part, sets-snoc, get_d_sets_below, get_d_sets_above}
 
 beside_at : (l : List Float) (t : ℕ) (vs : List Float) (p n : ℕ) → length vs < n → Beside t p n → at (sets l t vs) (p + length vs) ≡ at l (p + length vs)
-beside_at l t vs p n h (inl g) = getD-sets-above l t vs (p + length vs) nan (omega arith)
-beside_at l t vs p n h (inr g) = getD-sets-below l t vs (p + length vs) nan (omega arith)
+beside_at l t vs p n h (inl g) = get_d_sets_above l t vs (p + length vs) nan (omega arith)
+beside_at l t vs p n h (inr g) = get_d_sets_below l t vs (p + length vs) nan (omega arith)
 
 -- from t on, f of the k numbers from p on and those from q on
 abbrev pub combined : (Float → Float → Float) → List Float → ℕ → ℕ → ℕ → ℕ → List Float
@@ -36,7 +36,7 @@ module _ (f : Float → Float → Float) (l : List Float) (t p q n : ℕ) where
   next k w hp hq cp cq h c =
       let F = zip_with f (part l p k) (part l q k) in
       let v = f (at l (p + k)) (at l (q + k)) in
-      let m : length F ≡ k = length-zip-part f l p q k (omega arith) (omega arith) in
+      let m : length F ≡ k = length_zip_part f l p q k (omega arith) (omega arith) in
       let ep : at (sets l t F) (p + k) ≡ at l (p + k) = rw m at (beside_at l t F p n (omega arith) cp) in
       let eq : at (sets l t F) (q + k) ≡ at l (q + k) = rw m at (beside_at l t F q n (omega arith) cq) in
       record {

@@ -7,17 +7,17 @@ use mathlib.Core.List.{List, ◌++◌, append_assoc}
 use lib.ListN.{length, take, drop}
 use lib.Seq.{sets, sets-eq, length-sets, drop-drop}
 use Rattle.sequence.specs.Sequence.{part, Only}
-use Rattle.sequence.proofs.Parts.{length_part, part-sets-same, part-sets_above, part-sets_below}
+use Rattle.sequence.proofs.Parts.{length_part, part_sets_same, part_sets_above, part_sets_below}
 
 module _ {A : Type 0} where
   pub only_none : (x n : ℕ) (l : List A) → Only x n l l
   only_none x n l = record { long = refl; below = λ i k h. refl; above = λ i k h. refl }
 
-  pub only-sets : (l : List A) (x n : ℕ) (vs : List A) → length vs ≤ n → Only x n l (sets l x vs)
-  only-sets l x n vs h = record {
+  pub only_sets : (l : List A) (x n : ℕ) (vs : List A) → length vs ≤ n → Only x n l (sets l x vs)
+  only_sets l x n vs h = record {
     long = length-sets l x vs;
-    below = λ i k g. part-sets_below l i k x vs g;
-    above = λ i k g. part-sets_above l i k x vs (omega arith);
+    below = λ i k g. part_sets_below l i k x vs g;
+    above = λ i k g. part_sets_above l i k x vs (omega arith);
   }
 
   -- within a wider place
@@ -52,8 +52,8 @@ module _ {A : Type 0} (l ys : List A) (i n : ℕ) (h : i + n ≤ length l) (kept
       let e : length ys ≡ n = back_long in
       rw (c, sets-eq ys l i (omega arith), e, drop-drop n i l) (sym (append_assoc (take i l) ys (drop (i + n) l)))
 
-  pub back-only : Only i n l (back l ys i n)
-  back-only = let e : length ys ≡ n = back_long in rw back-sets (only-sets l i n ys (omega arith))
+  pub back_only : Only i n l (back l ys i n)
+  back_only = let e : length ys ≡ n = back_long in rw back-sets (only_sets l i n ys (omega arith))
 
-  pub back-part : part (back l ys i n) i n ≡ ys
-  back-part = rw back-sets (part-sets-same l i n ys back_long h)
+  pub back_part : part (back l ys i n) i n ≡ ys
+  back_part = rw back-sets (part_sets_same l i n ys back_long h)

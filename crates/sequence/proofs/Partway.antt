@@ -79,8 +79,8 @@ module _ {A : Type 0} (d t : List A) where
 
 -- a list that becomes f of another, element by element, and one that becomes f of itself
 module _ {A B : Type 0} (f : A → B) (x : List A) where
-  pub map-start : (d : List B) → length x ≡ length d → Partway d (map f x) 0 d
-  map-start d h = start d (map f x) (length-map x f ∙ h)
+  pub map_start : (d : List B) → length x ≡ length d → Partway d (map f x) 0 d
+  map_start d h = start d (map f x) (length-map x f ∙ h)
 
   pub map_next : {d s : List B} {k : ℕ} {y : B} (z : A) → Partway d (map f x) k s → k < length d → y ≡ f (get_or x k z) → Partway d (map f x) (k + 1) (set s k y)
   map_next {d} {s} {k} {y} z p h e = rw (add-one k) (step d (map f x) k s y (f z) h p (e ∙ sym (get_or-map f x k z)))

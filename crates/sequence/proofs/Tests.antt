@@ -58,11 +58,11 @@ module _ {A : Type 0} (p : A → Bool) (s : List A) where
   pub every-step : (i : ℕ) (d : A) → i < length s → p (get_or s i d) ≡ true → From p s i → From p s (i + 1)
   every-step i d h t e = rw add-one (e ∙ next i d h ∙ ap (λ b. b && every p (drop (suc i) s)) t)
 
-  pub every-stop : (i : ℕ) (d : A) → i < length s → p (get_or s i d) ≡ false → From p s i → false ≡ every p s
-  every-stop i d h t e = sym (e ∙ next i d h ∙ ap (λ b. b && every p (drop (suc i) s)) t)
+  pub every_stop : (i : ℕ) (d : A) → i < length s → p (get_or s i d) ≡ false → From p s i → false ≡ every p s
+  every_stop i d h t e = sym (e ∙ next i d h ∙ ap (λ b. b && every p (drop (suc i) s)) t)
 
-  pub every-end : (i : ℕ) → length s ≤ i → From p s i → true ≡ every p s
-  every-end i h e = sym (e ∙ ap (every p) (drop_of_length-le s h))
+  pub every_end : (i : ℕ) → length s ≤ i → From p s i → true ≡ every p s
+  every_end i h e = sym (e ∙ ap (every p) (drop_of_length-le s h))
 
 -- a loop over the indices of s, to e, has come to i
 pub record Testing {A : Type 0} (p : A → Bool) (s : List A) (e i : ℕ) : Type 0 where
@@ -71,18 +71,18 @@ pub record Testing {A : Type 0} (p : A → Bool) (s : List A) (e i : ℕ) : Type
   pub left : From p s i
 
 module _ {A : Type 0} {p : A → Bool} {s : List A} where
-  pub test-start : Testing p s (length s) 0
-  test-start = record { end = refl; within = omega arith; left = refl }
+  pub test_start : Testing p s (length s) 0
+  test_start = record { end = refl; within = omega arith; left = refl }
 
   module _ {e i : ℕ} (d : A) (t : Testing p s e i) (h : i < e) where
-    pub test-next : p (get_or s i d) ≡ true → Testing p s e (i + 1)
-    test-next y = record { end = t.end; within = omega arith; left = every-step p s i d (omega arith) y t.left }
+    pub test_next : p (get_or s i d) ≡ true → Testing p s e (i + 1)
+    test_next y = record { end = t.end; within = omega arith; left = every-step p s i d (omega arith) y t.left }
 
-    pub test-stop : p (get_or s i d) ≡ false → false ≡ every p s
-    test-stop n = every-stop p s i d (omega arith) n t.left
+    pub test_stop : p (get_or s i d) ≡ false → false ≡ every p s
+    test_stop n = every_stop p s i d (omega arith) n t.left
 
-  pub test-end : {e i : ℕ} → Testing p s e i → e ≤ i → true ≡ every p s
-  test-end {e} {i} t h = every-end p s i (omega arith) t.left
+  pub test_end : {e i : ℕ} → Testing p s e i → e ≤ i → true ≡ every p s
+  test_end {e} {i} t h = every_end p s i (omega arith) t.left
 
 -- the same where the loop goes on to the end, and `all` says whether each that it has passed holds
 pub record Tested {A : Type 0} (p : A → Bool) (s : List A) (e i : ℕ) (all : Bool) : Type 0 where
@@ -99,28 +99,28 @@ and_true true = refl
 and_true false = refl
 
 module _ {A : Type 0} {p : A → Bool} {s : List A} where
-  pub tested-start : Tested p s (length s) 0 true
-  tested-start = record { end = refl; within = omega arith; left = refl }
+  pub tested_start : Tested p s (length s) 0 true
+  tested_start = record { end = refl; within = omega arith; left = refl }
 
   module _ {e i : ℕ} {all : Bool} (d : A) (t : Tested p s e i all) (h : i < e) where
     rest : (b : Bool) → p (get_or s i d) ≡ b → every p s ≡ (all && (b && every p (drop (i + 1) s)))
     rest b y = rw add-one (t.left ∙ ap (λ r. all && r) (next p s i d (omega arith) ∙ ap (λ x. x && every p (drop (suc i) s)) y))
 
-    pub tested-holds : p (get_or s i d) ≡ true → Tested p s e (i + 1) all
-    tested-holds y = record { end = t.end; within = omega arith; left = rest true y }
+    pub tested_holds : p (get_or s i d) ≡ true → Tested p s e (i + 1) all
+    tested_holds y = record { end = t.end; within = omega arith; left = rest true y }
 
-    pub tested-fails : p (get_or s i d) ≡ false → Tested p s e (i + 1) false
-    tested-fails n = record { end = t.end; within = omega arith; left = rest false n ∙ and_false all }
+    pub tested_fails : p (get_or s i d) ≡ false → Tested p s e (i + 1) false
+    tested_fails n = record { end = t.end; within = omega arith; left = rest false n ∙ and_false all }
 
-  pub tested-end : {e i : ℕ} {all : Bool} → Tested p s e i all → e ≤ i → all ≡ every p s
-  tested-end {e} {i} {all} t h = let past : length s ≤ i = omega arith in sym (t.left ∙ ap (λ l. all && every p l) (drop_of_length-le s past) ∙ and_true all)
+  pub tested_end : {e i : ℕ} {all : Bool} → Tested p s e i all → e ≤ i → all ≡ every p s
+  tested_end {e} {i} {all} t h = let past : length s ≤ i = omega arith in sym (t.left ∙ ap (λ l. all && every p l) (drop_of_length-le s past) ∙ and_true all)
 
 -- ---- a test of some index
 
 module _ (p : ℕ → Bool) where
-  pub some-none : some 0 p ≡ false
+  pub some_none : some 0 p ≡ false
   unfolding some
-  some-none = refl
+  some_none = refl
 
   pub some-step : (n : ℕ) → some n p ≡ false → p n ≡ false → some (n + 1) p ≡ false
   unfolding some
@@ -130,17 +130,17 @@ module _ (p : ℕ → Bool) where
   unfolding some
   some_more n e = rw e
 
-  pub some-last : (n : ℕ) → p n ≡ true → some (suc n) p ≡ true
+  pub some_last : (n : ℕ) → p n ≡ true → some (suc n) p ≡ true
   unfolding some
-  some-last n t = by (some n p)
+  some_last n t = by (some n p)
     where
       by : (b : Bool) → (b || p n) ≡ true
       by true = refl
       by false = t
 
-  pub some-stop : (i n : ℕ) → i < n → p i ≡ true → true ≡ some n p
-  some-stop i zero h t = absurd (omega arith)
-  some-stop i (suc n) h t = last_or i n h (λ g. sym (some_more n (sym (some-stop i n g t)))) (λ e. sym (some-last n (ap p (sym e) ∙ t)))
+  pub some_stop : (i n : ℕ) → i < n → p i ≡ true → true ≡ some n p
+  some_stop i zero h t = absurd (omega arith)
+  some_stop i (suc n) h t = last_or i n h (λ g. sym (some_more n (sym (some_stop i n g t)))) (λ e. sym (some_last n (ap p (sym e) ∙ t)))
 
   pub some_end : (i n : ℕ) → i ≤ n → n ≤ i → some i p ≡ false → false ≡ some n p
   some_end i n a b e = sym e ∙ ap (λ (k : ℕ). some k p) (le_antisymm a b)

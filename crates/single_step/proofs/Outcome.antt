@@ -15,7 +15,7 @@ use Rattle.validate.specs.declared.Asked.TheVariants.{Pass, No}
 use Rattle.outcome.specs.Outcome.{Outcome, SameFit, SameButSigma, outcome, finished}
 use Rattle.outcome.proofs.AnyScratch.{finished-same, decided-same}
 use Rattle.outcome.proofs.AnyChoice.{finished_but_sigma, decided_but_sigma}
-use Rattle.outcome.proofs.Call.{answered, refusal-has-number}
+use Rattle.outcome.proofs.Call.{answered, refusal_has_number}
 use Rattle.single_step.specs.SingleStep.{fitted_run, fitted, fit_outcome}
 
 module _ (l : FitInputs) (by : SigmaBy) (b : Buffers) (o : IterOptions) (none : o ≡ no_options) (r : Asked) (q : r ≡ asked l o (sizes_of b)) where
@@ -51,4 +51,4 @@ any_choice l by by' b =
 
 pub refusal_not_zero : (l : FitInputs) (by : SigmaBy) (b : Buffers) (k : ℕ) → (fit_outcome l by b).answer ≡ Refused k → k ≡ 0 → ⊥
 unfolding fit_outcome fitted_run finished
-refusal_not_zero l by b = refusal-has-number l no_options b (fitted l by b) _ refl
+refusal_not_zero l by b = refusal_has_number l no_options b (fitted l by b) _ refl

@@ -17,14 +17,14 @@ use Rattle.solver.specs.declared.SigmaBy.{SigmaBy}
 use Rattle.solver.specs.Call.{Buffers, buffers}
 use Rattle.design.specs.Design.{RunInputs, run_from, sights_at, product, extracted, weighed_at, scattered}
 use Rattle.design.specs.Counted.{Counted}
-use Rattle.design.proofs.Runs.{with_terms, rows_are, free-room}
+use Rattle.design.proofs.Runs.{with_terms, rows_are, free_room}
 use Rattle.stats.specs.declared.Sky.{Sky}
 use Rattle.stats.specs.Stats.{degrees, sky_from, divisor, variance, sigma_at}
 use Rattle.outcome.specs.Outcome.{diagnostic_from, diagnostic_numbers, answer_of, outcome}
 use Rattle.outcome.specs.Scratch.{count_of, height_in, residuals_in, b_in, sky_in, columns_in, solved_in}
-use Rattle.outcome.proofs.Front.{renewed, Renewed, front_long, front-again, front-count, front_rest, front-part, front_above}
+use Rattle.outcome.proofs.Front.{renewed, Renewed, front_long, front_again, front_count, front_rest, front_part, front_above}
 use Rattle.outcome.proofs.Laws.{InOrder, solved_in-order, finishes}
-use Rattle.outcome.proofs.Runs.{unweighed-are}
+use Rattle.outcome.proofs.Runs.{unweighed_are}
 use Rattle.single_step.specs.SingleStep.{to_fit, step, change, new_coefficients, free_residuals, actual_residuals, once, fitted_run}
 
 pub step_in_order : (l : RunInputs) (s : List Float) → InOrder (length l.free) (step (run_from l) s).outcome
@@ -34,16 +34,16 @@ step_in_order l s = solved_in-order _ _ (length l.free) _ _ _
 -- ---- the change and the set
 
 module _ (l : RunInputs) (s : List Float) where
-  pub change-is : (w was ch : List Float) (o : SolveOutcome) → l.m ≤ length was → solved_in l w o ≡ step (run_from l) s
+  pub change_is : (w was ch : List Float) (o : SolveOutcome) → l.m ≤ length was → solved_in l w o ≡ step (run_from l) s
       → ch ≡ scattered l.free (at o.x) (replicate (length (take l.m was)) #0) → ch ≡ change (run_from l) s
   unfolding change
-  change-is w was ch o room e q =
+  change_is w was ch o room e q =
       q ∙ rw (length-take-le l.m was room) (ap (λ (x : Solved). scattered l.free (at x.outcome.x) (replicate l.m #0)) e)
 
   pub set_is : (was ch set : List Float) → Renewed was ch l.m → ch ≡ change (run_from l) s
       → set ≡ zip_with (add binary64) s (take l.m (renewed was ch l.m)) → set ≡ new_coefficients (run_from l) s
   unfolding new_coefficients
-  set_is was ch set r e q = q ∙ rw (front-again r, e) refl
+  set_is was ch set r e q = q ∙ rw (front_again r, e) refl
 
 -- ---- scratch: its first `need` numbers came back as a from the step, then 4·n as v, then 8·n as r
 
@@ -61,45 +61,45 @@ pub record Lent (l : RunInputs) (need : ℕ) (w a v r : List Float) : Type 0 whe
   pub left : Renewed (after_sky l need w a v) r (8 * count_of l)
 
 module _ {l : RunInputs} {need : ℕ} {w a v r : List Float} (t : Lent l need w a v r) where
-  pub lent-long : length (after_all l need w a v r) ≡ length w
-  lent-long = front_long t.left ∙ front_long t.seen ∙ front_long t.stepped
+  pub lent_long : length (after_all l need w a v r) ≡ length w
+  lent_long = front_long t.left ∙ front_long t.seen ∙ front_long t.stepped
 
   pub lent_fits : need ≤ length (after_all l need w a v r)
-  lent_fits = rw lent-long t.stepped.room
+  lent_fits = rw lent_long t.stepped.room
 
   above : (i : ℕ) → 8 * count_of l ≤ i → drop i (after_all l need w a v r) ≡ drop i (renewed w a need)
   above i h = front_above t.left i h ∙ front_above t.seen i (omega arith)
 
-  pub rest-kept : drop need (after_all l need w a v r) ≡ drop need w
-  rest-kept = above need (omega (arith, t.room)) ∙ front_rest t.stepped
+  pub rest_kept : drop need (after_all l need w a v r) ≡ drop need w
+  rest_kept = above need (omega (arith, t.room)) ∙ front_rest t.stepped
 
   -- what the step made, where it is lent last
   pub step_kept : (o : SolveOutcome) (s : Solved) → solved_in l a o ≡ s → solved_in l (take need (after_all l need w a v r)) o ≡ s
   step_kept o s e =
       let n = count_of l in
       let k = length l.free * height_in l in
-      let few : 8 * n + k ≤ need = omega (arith, t.room, free-room l t.counted (height_in l)) in
+      let few : 8 * n + k ≤ need = omega (arith, t.room, free_room l t.counted (height_in l)) in
       let same : columns_in l (take need (after_all l need w a v r)) ≡ columns_in l a =
-      part-take (after_all l need w a v r) (8 * n) k need few lent_fits ∙ ap (take k) (above (8 * n) (omega arith)) ∙ front-part t.stepped (8 * n) k few in
+      part-take (after_all l need w a v r) (8 * n) k need few lent_fits ∙ ap (take k) (above (8 * n) (omega arith)) ∙ front_part t.stepped (8 * n) k few in
       ap (λ (u : List Float). record { outcome = o; w = u }) same ∙ e
 
   -- the free terms' residuals
-  pub residuals-are : (o : SolveOutcome) (s : List Float) → solved_in l a o ≡ step (run_from l) s → b_in l a ≡ to_fit (run_from l) s
+  pub residuals_are : (o : SolveOutcome) (s : List Float) → solved_in l a o ≡ step (run_from l) s → b_in l a ≡ to_fit (run_from l) s
       → part r (2 * count_of l) (2 * count_of l)
       ≡ zip_with (sub binary64) (b_in l (take (8 * count_of l) (after_sky l need w a v)))
       (product (2 * count_of l) (length l.free) (at o.x) (extracted l.free
       (weighed_at #0 (sky_in l (take (8 * count_of l) (after_sky l need w a v))) l.settings (sights_at l.pier l.sheets l.used) l.names)))
       → residuals_in l (take need (after_all l need w a v r)) ≡ free_residuals (run_from l) s
   unfolding free_residuals
-  residuals-are o s e b q =
+  residuals_are o s e b q =
       let n = count_of l in
       let w₂ = after_sky l need w a v in
       let right : b_in l (take (8 * n) w₂) ≡ to_fit (run_from l) s =
       part-take w₂ (4 * n) (2 * n) (8 * n) (omega arith) t.left.room ∙ ap (take (2 * n)) (front_above t.seen (4 * n) (omega arith))
-      ∙ front-part t.stepped (4 * n) (2 * n) (omega (arith, t.room)) ∙ b in
+      ∙ front_part t.stepped (4 * n) (2 * n) (omega (arith, t.room)) ∙ b in
       let x : o.x ≡ (step (run_from l) s).outcome.x = ap (λ (u : Solved). u.outcome.x) e in
-      part-take (after_all l need w a v r) (2 * n) (2 * n) need (omega (arith, t.room)) lent_fits ∙ front-part t.left (2 * n) (2 * n) (omega arith)
-      ∙ q ∙ rw (right, x, unweighed-are l (sky_in l (take (8 * n) w₂)), rows_are l) refl
+      part-take (after_all l need w a v r) (2 * n) (2 * n) need (omega (arith, t.room)) lent_fits ∙ front_part t.left (2 * n) (2 * n) (omega arith)
+      ∙ q ∙ rw (right, x, unweighed_are l (sky_in l (take (8 * n) w₂)), rows_are l) refl
 
 -- ---- a run whose number of terms is counted on the set
 
@@ -139,10 +139,10 @@ pub run-fitted : (l : RunInputs) (by : SigmaBy) (s : List Float) (need : ℕ) (b
 unfolding fitted_run
 run-fitted l by s need b a v r d moved set sigma' diagnostics' o sky answer t es eb km em ks et ek er ea ei ed ez =
     let w₃ = after_all l need b.scratch a v r in
-    let ch : moved ≡ change (run_from l) s = change-is l s a b.change moved o km.room es em in
+    let ch : moved ≡ change (run_from l) s = change_is l s a b.change moved o km.room es em in
     let new : set ≡ new_coefficients (run_from l) s = set_is l s b.change moved set km ch et in
-    let k = rw (front-again ks, new) at (sky_as l _ _ sky (front-count ks) ek) in
-    let zs : renewed w₃ d need ≡ replicate need #0 ++ drop need b.scratch = rw (ez, length-take-le need w₃ (lent_fits t), rest-kept t) refl in
+    let k = rw (front_again ks, new) at (sky_as l _ _ sky (front_count ks) ek) in
+    let zs : renewed w₃ d need ≡ replicate need #0 ++ drop need b.scratch = rw (ez, length-take-le need w₃ (lent_fits t), rest_kept t) refl in
     finishes l by need b (take need w₃) _ _ _ _ _ _ sigma' diagnostics' _ o (step (run_from l) s) sky once answer
-    (step_kept t o (step (run_from l) s) es) (residuals-are t o s es eb er) k
+    (step_kept t o (step (run_from l) s) es) (residuals_are t o s es eb er) k
     (ap (λ (x : List Float). x ++ drop l.m b.coefficients) new) (ap (λ (x : List Float). x ++ drop l.m b.change) ch) ea ei ed zs

@@ -3,7 +3,7 @@ use mathlib.Core.Path.{◌≡◌, refl}
 use mathlib.Core.Bool.{true}
 use lib.ListN.{length}
 use Rattle.jacobi.specs.Jacobi.{SweepsInLimit}
-use Rattle.linalg.proofs.Sweeps.{sweeps-made, sweeps-settled}
+use Rattle.linalg.proofs.Sweeps.{sweeps-made, sweeps_settled}
 use Rattle.solver.specs.declared.Fit.TheVariants.{Done}
 use Rattle.solver.specs.declared.FitResult.{FitResult}
 use Rattle.solver.specs.declared.SigmaBy.{SigmaBy}
@@ -20,7 +20,7 @@ module _ (l : FitInputs) (by : SigmaBy) (b : Buffers) (x : FitResult) (done : (f
   tells =
       let r = run_of l in
       Sweeps.tells (asked l no_options (sizes_of b)) (fitted l by b) b _ x (factorised_in r (sky_of r)) refl
-      (record { sweeps = sweeps-made _ _ _ _ _ _; settled = sweeps-settled _ _ _ _ _ _ }) done
+      (record { sweeps = sweeps-made _ _ _ _ _ _; settled = sweeps_settled _ _ _ _ _ _ }) done
 
   pub limited : SweepsInLimit x.sweeps x.settled
   limited = Sweeps.limited _ _ _ _ x tells

@@ -11,9 +11,9 @@ use Rattle.sequence.proofs.Fills.{last_or}
 use Rattle.terms.specs.Slots.{first_of}
 
 module _ (f : ℕ → ℕ) where
-  pub first-none : first_of 0 f ≡ 0
+  pub first_none : first_of 0 f ≡ 0
   unfolding first_of
-  first-none = refl
+  first_none = refl
 
   first-suc : (n : ℕ) → first_of n f ≡ 0 → first_of (suc n) f ≡ f n
   unfolding first_of
@@ -26,15 +26,15 @@ module _ (f : ℕ → ℕ) where
   pub first_step : (n v : ℕ) → first_of n f ≡ 0 → v ≡ f n → v ≡ 0 → first_of (n + 1) f ≡ 0
   first_step n v e q z = rw (add-one n) (first-suc n e ∙ sym q ∙ z)
 
-  pub first-stop : (i n v : ℕ) → i < n → first_of i f ≡ 0 → v ≡ f i → (v ≡ 0 → ⊥) → v ≡ first_of n f
-  first-stop i zero v h e q z = absurd (omega arith)
-  first-stop i (suc n) v h e q z =
+  pub first_stop : (i n v : ℕ) → i < n → first_of i f ≡ 0 → v ≡ f i → (v ≡ 0 → ⊥) → v ≡ first_of n f
+  first_stop i zero v h e q z = absurd (omega arith)
+  first_stop i (suc n) v h e q z =
       last_or i n h
-      (λ g. let r = first-stop i n v g e q z in r ∙ sym (first-kept n (λ y. z (r ∙ y))))
+      (λ g. let r = first_stop i n v g e q z in r ∙ sym (first-kept n (λ y. z (r ∙ y))))
       (λ same. q ∙ ap f same ∙ sym (first-suc n (ap (λ (k : ℕ). first_of k f) (sym same) ∙ e)))
 
-  pub first-end : (i n : ℕ) → i ≤ n → n ≤ i → first_of i f ≡ 0 → 0 ≡ first_of n f
-  first-end i n p q e = sym e ∙ ap (λ (k : ℕ). first_of k f) (le_antisymm p q)
+  pub first_end : (i n : ℕ) → i ≤ n → n ≤ i → first_of i f ≡ 0 → 0 ≡ first_of n f
+  first_end i n p q e = sym e ∙ ap (λ (k : ℕ). first_of k f) (le_antisymm p q)
 
 -- where the first is 0 all are
 split : (b v : ℕ) → cond (eqb b 0) v b ≡ 0 → (b ≡ 0) × (v ≡ 0)

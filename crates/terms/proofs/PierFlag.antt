@@ -22,7 +22,7 @@ use Rattle.terms.specs.Jacobian.{kind_jacobian, term_jacobian, jacobian_of, Same
 use Rattle.terms.specs.declared.TermKind.{TermKind}
 use Rattle.terms.specs.declared.TermKind.TheVariants.{Equatorial, Harmonic}
 use Rattle.terms.specs.declared.Term.{Term}
-use Rattle.terms.proofs.Readings.{of-reading}
+use Rattle.terms.proofs.Readings.{of_reading}
 
 -- ---- false
 
@@ -99,11 +99,11 @@ module _ (cs : Components) (sinLat cosLat : Float) (value : OneOrZero (evaluate 
 -- ---- the term of every reading
 
 pub flag_of_kind : (slot : List ℕ) → (read_term slot).term.pier_sensitive ≡ pier_sensitive_of (read_term slot).term.kind
-flag_of_kind = of-reading (λ (t : Term). t.pier_sensitive ≡ pier_sensitive_of t.kind) (λ t name. refl) (λ n h. refl)
+flag_of_kind = of_reading (λ (t : Term). t.pier_sensitive ≡ pier_sensitive_of t.kind) (λ t name. refl) (λ n h. refl)
 
 value_on_ones : (slot : List ℕ) → OneOrZero (evaluate ones (read_term slot).term.components)
 unfolding value_product
-value_on_ones = of-reading (λ (t : Term). OneOrZero (evaluate ones t.components)) (λ t name. inl refl) (λ n h. read_ones n)
+value_on_ones = of_reading (λ (t : Term). OneOrZero (evaluate ones t.components)) (λ t name. inl refl) (λ n h. read_ones n)
 
 module _ (slot : List ℕ) (sheet : List Float) (sinLat cosLat p q : Float) where
   same_at : (read_term slot).term.pier_sensitive ≡ false

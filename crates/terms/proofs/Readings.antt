@@ -18,7 +18,7 @@ use Rattle.terms.specs.declared.TermKind.TheVariants.{Equatorial, Harmonic}
 use Rattle.terms.specs.declared.Term.{Term}
 use Rattle.terms.specs.declared.Reading.{Reading}
 use Rattle.terms.specs.declared.names.Known.{Known}
-use Rattle.terms.proofs.Slots.{end-within}
+use Rattle.terms.proofs.Slots.{end_within}
 
 -- what holds of every such term holds of the term of every reading
 module _ (P : Term → Type 0) (equatorial : (t : EquatorialTerm) (name : List ℕ) → P (term_of (Equatorial t) name (array_of [])))
@@ -53,9 +53,9 @@ module _ (P : Term → Type 0) (equatorial : (t : EquatorialTerm) (name : List �
   of-name : (slot : List ℕ) → length slot ≡ 16 → P (by_known (map capital (name_of slot)) (find fixed_names (map capital (name_of slot)))).term
   of-name slot h =
       let n = map capital (name_of slot) in
-      of-known n (omega (arith, length-map (name_of slot) capital, end-within slot (length (name_of slot)) refl)) (find fixed_names n)
+      of-known n (omega (arith, length-map (name_of slot) capital, end_within slot (length (name_of slot)) refl)) (find fixed_names n)
 
-  pub of-reading : (slot : List ℕ) → P (read_term slot).term
+  pub of_reading : (slot : List ℕ) → P (read_term slot).term
   unfolding read_term
-  of-reading slot =
+  of_reading slot =
       either (eqb (length slot) 16) _ _ (λ e. either (well_formed slot) _ _ (λ w. of-name slot (eqb-true (length slot) 16 e)) (of-refused 7)) (of-refused 2)

@@ -128,8 +128,8 @@ module _ (s : List ℕ) where
 
 -- the code has found that the name ends at n
 module _ (s : List ℕ) (n : ℕ) (is : n ≡ length (name_of s)) where
-  pub end-within : n ≤ length s
-  end-within = omega (arith, name_short s)
+  pub end_within : n ≤ length s
+  end_within = omega (arith, name_short s)
 
   front : take n s ≡ name_of s
   front = ap (λ k. take k s) is ∙ name_take s
@@ -153,8 +153,8 @@ module _ (s : List ℕ) (n : ℕ) (is : n ≡ length (name_of s)) where
         (rw (ap (every (λ b. eqb b 0)) (sym behind) ∙ e) (and-false (ltb 0 (length (name_of s)) && every (λ b. ltb b 128) (name_of s))))
 
     module _ (full : List ℕ) (full_is : full ≡ map capital s) where
-      pub full-length : length full ≡ 16
-      full-length = ap length full_is ∙ length-map s capital ∙ sixteen
+      pub full_length : length full ≡ 16
+      full_length = ap length full_is ∙ length-map s capital ∙ sixteen
 
       module _ (some_byte : n ≡ 0 → ⊥)
           (asciis : every (λ b. ltb b 128) (take n s) ≡ true)
@@ -173,10 +173,10 @@ module _ (s : List ℕ) (n : ℕ) (is : n ≡ length (name_of s)) where
 
         pub clean : Clean (take n full) full
         clean =
-            let long : length (take n full) ≡ n = length-take-le n full (omega (arith, end-within, full-length)) in
+            let long : length (take n full) ≡ n = length-take-le n full (omega (arith, end_within, full_length)) in
             record {
               some_bytes = omega (arith, above-none);
-              at_most = omega (arith, end-within);
+              at_most = omega (arith, end_within);
               bytes = ap (every byte) name-is ∙ name_bytes s asciis-front;
               full_is = full_is ∙ slot-padded s sixteen zeros-behind ∙ ap padded (sym name-is);
             }

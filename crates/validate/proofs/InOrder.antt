@@ -54,8 +54,8 @@ module _ (l : FitInputs) (o : IterOptions) (s : Sizes) where
   pub no_size : (j : ℕ) → j ≡ no_of sizes → (j ≡ 0 → ⊥) → j ≡ no_of numbers
   no_size j e h = e ∙ stops (λ (k : ℕ). k) 0 sizes (finite ∷ []) (λ z. h (e ∙ z))
 
-  pub sizes-pass : (j : ℕ) → j ≡ no_of sizes → j ≡ 0 → (k : ℕ) → k ≡ cond (finite_input l && finite_options o) 0 4 → k ≡ no_of numbers
-  sizes-pass j e z k q = q ∙ goes_on (λ (k : ℕ). k) 0 sizes (finite ∷ []) refl (sym e ∙ z)
+  pub sizes_pass : (j : ℕ) → j ≡ no_of sizes → j ≡ 0 → (k : ℕ) → k ≡ cond (finite_input l && finite_options o) 0 4 → k ≡ no_of numbers
+  sizes_pass j e z k q = q ∙ goes_on (λ (k : ℕ). k) 0 sizes (finite ∷ []) refl (sym e ∙ z)
 
   -- lengths that pass: 16 name bytes for each term, and at most 32 flags
   pub sized : no_of numbers ≡ 0 → (length l.names ≡ 16 * length l.coefficients) × (length l.fixed ≤ 32)
@@ -83,9 +83,9 @@ module _ (l : FitInputs) (o : IterOptions) (s : Sizes) where
         ap No e ∙ stops No Pass codes terms (λ z. h (e ∙ z)) ∙ goes_on No Pass numbers (codes ++ terms) refl (sym numbers-no ∙ j-yes)
 
     module _ (k : ℕ) (codes-no : k ≡ no_of codes) (k-yes : k ≡ 0) where
-      pub no-term : (i : ℕ) → i ≡ no_of terms → (i ≡ 0 → ⊥) → No i ≡ asked l o s
+      pub no_term : (i : ℕ) → i ≡ no_of terms → (i ≡ 0 → ⊥) → No i ≡ asked l o s
       unfolding asked
-      no-term i e h =
+      no_term i e h =
           ap No e ∙ stops No Pass terms [] (λ z. h (e ∙ z))
           ∙ goes_on No Pass codes terms refl (sym codes-no ∙ k-yes)
           ∙ goes_on No Pass numbers (codes ++ terms) refl (sym numbers-no ∙ j-yes)
@@ -102,9 +102,9 @@ module _ (l : FitInputs) (o : IterOptions) (s : Sizes) where
   all-numbered : every numbered all ≡ true
   all-numbered = both (numbered_itself (names_refusal l.names (length l.coefficients))) refl
 
-  pub no-has-number : (k : ℕ) → No k ≡ asked l o s → k ≡ 0 → ⊥
+  pub no_has_number : (k : ℕ) → No k ≡ asked l o s → k ≡ 0 → ⊥
   unfolding asked
-  no-has-number k e z = by (eqb (no_of all) 0) refl
+  no_has_number k e z = by (eqb (no_of all) 0) refl
     where
       by : (t : Bool) → eqb (no_of all) 0 ≡ t → ⊥
       by true q = false≢true (ap refuses (goes_on No Pass all [] all-numbered (eqb-true (no_of all) 0 q) ∙ sym e))

@@ -13,7 +13,7 @@ use Rattle.terms.specs.Slots.{names_refusal}
 use Rattle.terms.specs.Questions.{Question, first_no}
 use Rattle.design.specs.Design.{run_inputs_of}
 use Rattle.design.specs.Counted.{Counted}
-use Rattle.design.proofs.Indices.{up_to-length, up_to_below, indices-few, indices-below}
+use Rattle.design.proofs.Indices.{up_to-length, up_to_below, indices_few, indices_below}
 use Rattle.solver.specs.declared.IterOptions.{IterOptions}
 use Rattle.solver.specs.declared.Sizes.{Sizes}
 use Rattle.solver.specs.Call.{FitInputs}
@@ -91,8 +91,8 @@ counted l f c read free enough = record {
   names_count = c.names_count;
   names_read = read;
   some_free = free;
-  free_few = omega (arith, indices-few l.fixed, c.fixed_count);
-  free_below = rw c.fixed_count at (indices-below l.fixed);
+  free_few = omega (arith, indices_few l.fixed, c.fixed_count);
+  free_below = rw c.fixed_count at (indices_below l.fixed);
   stars = f.1;
   dd_count = c.dd_count;
   pier_count = c.pier_count;

@@ -3,7 +3,7 @@ use native.Mathlib.Omega.{arith}
 use lib.ListN.{length}
 use Rattle.sequence.proofs.Sums.{dot_none, dot-step, dot_end}
 use Rattle.column.specs.Column.{extended}
-use Rattle.column.proofs.Laws.{length-extended, extended-data, extended-zero}
+use Rattle.column.proofs.Laws.{length-extended, extended_data, extended-zero}
 use Rattle.column.proofs.dot.Goals as goal
 
 pub loop-k-init : goal.loop-k-init
@@ -18,7 +18,7 @@ loop-k-preserved c =
     let x = a.x.now in
     let b = a.b.now in
     let n = length-extended (length x) b c.requires in
-    (omega arith, omega arith, dot-step x (extended (length x) b) _ _ _ u.invariant.2 (extended-data (length x) b c.requires _ (omega arith)) (omega arith) (omega arith))
+    (omega arith, omega arith, dot-step x (extended (length x) b) _ _ _ u.invariant.2 (extended_data (length x) b c.requires _ (omega arith)) (omega arith) (omega arith))
 
 pub loop-k-2-init : goal.loop-k-2-init
 loop-k-2-init c =

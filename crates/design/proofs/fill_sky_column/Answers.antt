@@ -2,7 +2,7 @@
 use mathlib.Core.Path.{sym, ap, ◌∙◌}
 use mathlib.Core.List.{[]}
 use Rattle.design.specs.Design.{sky_rows, sights_at}
-use Rattle.design.proofs.Stars.{sky-column-is, sky-rows-same}
+use Rattle.design.proofs.Stars.{sky_column_is, sky_rows-same}
 use Rattle.design.proofs.fill_sky_column.Goals as goal
 
 pub returns : goal.returns
@@ -10,5 +10,5 @@ returns c =
     let a = c.args in
     c.scale_ha_rows.ensures
     ∙ ap (sky_rows (sights_at [] a.sheets.now a.used.now)) c.fill_column.ensures
-    ∙ sym (sky-rows-same [] [] a.pier.now a.sheets.now a.used.now _)
-    ∙ sky-column-is [] [] a.pier.now a.sheets.now a.used.now a.s a.term
+    ∙ sym (sky_rows-same [] [] a.pier.now a.sheets.now a.used.now _)
+    ∙ sky_column_is [] [] a.pier.now a.sheets.now a.used.now a.s a.term

@@ -9,9 +9,9 @@ use lib.Ieee.{Float}
 use Rattle.float.specs.Float.{#0, ◌⊕◌, ◌⊗◌}
 use Rattle.solver.specs.declared.Settings.{Settings}
 use Rattle.sequence.specs.Sequence.{at, each}
-use Rattle.sequence.proofs.Only.{only_none, only_wider, only_then, back-only}
+use Rattle.sequence.proofs.Only.{only_none, only_wider, only_then, back_only}
 use Rattle.design.specs.Design.{Star, term_at, sky_column, plus, weighing, weighed_at, extracted, product}
-use Rattle.design.proofs.Terms.{combines, zeroed, step, turned_none, turned-next, turned-end}
+use Rattle.design.proofs.Terms.{combines, zeroed, step, turned_none, turned_next, turned_end}
 use Rattle.design.proofs.free_product.Invariants.{term}
 use Rattle.design.proofs.free_product.Goals as goal
 
@@ -46,7 +46,7 @@ loop-i-preserved c =
     let same = u.invariant.1.above (6 * n) (2 * n) (omega arith) in
     let p = combines (λ y x. y ⊕ x ⊗ at a.x.now u.i) u.v _ _ _ (2 * n) (omega (arith, u.invariant.2)) e.0 e.1 c.add_scaled.ensures in
     let is = c.term_at-t.ensures ∙ ap (term_at a.names.now) c.index.ensures in (
-      turned-next u.invariant.0 _ _ (omega arith) refl p.1.long is (rw same at p.0),
+      turned_next u.invariant.0 _ _ (omega arith) refl p.1.long is (rw same at p.0),
       only_then 0 (4 * n) _ u.v _ u.invariant.1
           (only_wider 0 (2 * n + 2 * n) 0 (4 * n) u.v _ (omega arith) (omega arith) p.1),
       p.1.long ∙ u.invariant.2,
@@ -58,6 +58,6 @@ returns c =
     let a = c.args in
     let n = length a.used.now in
     let z = zeroed a.v.now c.fill.new.0 (2 * n) (2 * n + 2 * n) refl (omega arith) c.fill.ensures in
-    let only = back-only a.v.now c.fill.new.0 (2 * n) (2 * n) (omega arith) c.fill.auto.0 in
-    let same = only.above (6 * n) (2 * n) (omega arith) in record { filled = done a.k a.x.now a.s _ a.names.now a.free.now (2 * n) _ _ _ _ (turned-end u.invariant.0 (omega arith)) same z; only = (only_then 0 (4 * n) a.v.now _ u.v (only_wider (2 * n) (2 * n) 0 (4 * n) a.v.now _ (omega arith) (omega arith) only)
+    let only = back_only a.v.now c.fill.new.0 (2 * n) (2 * n) (omega arith) c.fill.auto.0 in
+    let same = only.above (6 * n) (2 * n) (omega arith) in record { filled = done a.k a.x.now a.s _ a.names.now a.free.now (2 * n) _ _ _ _ (turned_end u.invariant.0 (omega arith)) same z; only = (only_then 0 (4 * n) a.v.now _ u.v (only_wider (2 * n) (2 * n) 0 (4 * n) a.v.now _ (omega arith) (omega arith) only)
           u.invariant.1, ) }

@@ -4,7 +4,7 @@ use mathlib.Core.Path.{refl, ap, ◌∙◌}
 use lib.ListN.{length}
 use Rattle.sequence.specs.Sequence.{each}
 use Rattle.design.specs.Design.{term_at, product}
-use Rattle.design.proofs.Terms.{zeroed, turned_none, turned-next, turned-end}
+use Rattle.design.proofs.Terms.{zeroed, turned_none, turned_next, turned_end}
 use Rattle.design.proofs.product.Goals as goal
 
 pub loop-j-init : goal.loop-j-init
@@ -17,11 +17,11 @@ pub loop-j-preserved : goal.loop-j-preserved
 loop-j-preserved c =
     let call = c.add_column in
     let u = c.loop-j in
-    turned-next u.invariant _ _ (omega arith) refl call.auto.1.1.1.1.1.1.0 c.term_at.ensures call.ensures
+    turned_next u.invariant _ _ (omega arith) refl call.auto.1.1.1.1.1.1.0 c.term_at.ensures call.ensures
 
 pub returns : goal.returns
 unfolding product
 returns c =
     let a = c.args in
     let z = zeroed a.v.now c.fill.new.0 (2 * length a.used.now) (length a.v.now) (omega arith) (omega arith) c.fill.ensures in
-    turned-end c.loop-j.invariant (omega arith) ∙ ap (each (length a.coefficients.now) 0 _) z
+    turned_end c.loop-j.invariant (omega arith) ∙ ap (each (length a.coefficients.now) 0 _) z

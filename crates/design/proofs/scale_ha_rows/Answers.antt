@@ -6,7 +6,7 @@ use lib.Ieee.{nan}
 use native.Mathlib.Omega.{arith}
 use Rattle.design.specs.Design.{star_at}
 use Rattle.sequence.proofs.Partway.{start, first, read, end}
-use Rattle.design.proofs.Rows.{sky_rows-length, sky-hour, sky-dec}
+use Rattle.design.proofs.Rows.{sky_rows-length, sky_hour, sky_dec}
 use Rattle.design.proofs.scale_ha_rows.Goals as goal
 
 pub loop-r-init : goal.loop-r-init
@@ -29,8 +29,8 @@ loop-r-preserved c =
       refl,
       omega arith,
       first b _ c.loop-r.r c.loop-r.b _ nan (omega arith) c.loop-r.invariant.2
-          (rw (k, q, i) (sym (sky-hour s n b c.loop-r.r (omega arith) (omega arith))))
-          (sym (sky-dec s n b c.loop-r.r (omega arith) (omega arith))),
+          (rw (k, q, i) (sym (sky_hour s n b c.loop-r.r (omega arith) (omega arith))))
+          (sym (sky_dec s n b c.loop-r.r (omega arith) (omega arith))),
     )
 
 pub returns : goal.returns

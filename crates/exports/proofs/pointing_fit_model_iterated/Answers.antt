@@ -2,7 +2,7 @@
 use Rattle.solver.specs.Call.{FitInputs, settings_of, inputs, Buffers, buffers, sizes_of}
 use Rattle.iterated.specs.Iterated.{iterated_outcome}
 use Rattle.exports.specs.Fits.{unknown_no}
-use Rattle.exports.proofs.Answered.{answered, best_where_given, known, unknown, unknown-not-given}
+use Rattle.exports.proofs.Answered.{answered, best_where_given, known, unknown, unknown_not_given}
 use Rattle.exports.proofs.pointing_fit_model_iterated.Goals as goal
 use Rattle.exports.proofs.pointing_fit_model_iterated.Goals.{Start}
 
@@ -20,7 +20,7 @@ returns-then-sigma_by-gt1 c =
     let l = call c.before.before.before.before.before.before.before.before.before.before.before.before.before.before in
     let o = c.args.options in
     let b = lent c.before.before.before.before.before.before.before.before.before.before.before.before.before.before in
-    let said = c.unknown_code.ensures in record { whole = unknown c.args.sigma_by (λ by. iterated_outcome l by o b) _ b _ c.if-sigma_by-gt1.true said; best = unknown-not-given l o (sizes_of b) _ _ said }
+    let said = c.unknown_code.ensures in record { whole = unknown c.args.sigma_by (λ by. iterated_outcome l by o b) _ b _ c.if-sigma_by-gt1.true said; best = unknown_not_given l o (sizes_of b) _ _ said }
 
 pub returns : goal.returns
 returns c =

@@ -4,11 +4,11 @@ use Prim.Native.Nat.{◌+◌}
 use mathlib.Core.Logic.{⊎_elim}
 use mathlib.Core.Path.{◌∙◌, ap, sym}
 use Rattle.harmonic.specs.Inside.{place}
-use Rattle.harmonic.proofs.Steps.{step-short, step-plain, step-digit, is_digit_lem, below, above, past}
+use Rattle.harmonic.proofs.Steps.{step_short, step_plain, step-digit, is_digit_lem, below, above, past}
 use Rattle.harmonic.proofs.component_at.Goals as goal
 
 pub returns-then-chars-i-lt2 : goal.returns-then-chars-i-lt2
-returns-then-chars-i-lt2 c = sym (step-short c.args.chars.now c.args.i c.if-chars-i-lt2.true)
+returns-then-chars-i-lt2 c = sym (step_short c.args.chars.now c.args.i c.if-chars-i-lt2.true)
 
 pub returns-then-d-le57 : goal.returns-then-d-le57
 returns-then-d-le57 c =
@@ -21,7 +21,7 @@ returns c =
     let a = c.args in
     c.placed-2.ensures ∙ ap (λ m. place m (a.i + 2)) c.make_component-2.ensures
     ∙ sym
-    (step-plain a.chars.now a.i (omega arith)
+    (step_plain a.chars.now a.i (omega arith)
     (⊎_elim (λ w. above _ w.3.left)
     (⊎_elim (λ w. below _ w.2.left) (λ w. past a.chars.now a.i w.left))
     c.if-i-chars.branch))

@@ -7,7 +7,7 @@ use lib.ListN.{length, take}
 use lib.Seq.{length-take-le}
 use Rattle.design.proofs.Runs.{seen, named}
 use Rattle.outcome.proofs.Front.{front_size}
-use Rattle.iterated.proofs.Laws.{set_front, last-kept, last-not, tried-last}
+use Rattle.iterated.proofs.Laws.{set_front, last_kept, last_not, tried_last}
 use Rattle.iterated.proofs.apply_final_step.Goals as goal
 use Rattle.iterated.proofs.apply_final_step.Goals.{After-propose-last}
 
@@ -59,9 +59,9 @@ returns c =
     let k = c.huber_threshold-k.ensures in
     let last = c.propose-last.ensures in
     let under = c.free_residuals in
-    tried-last f last a.options a.chi2 k _ _ _
+    tried_last f last a.options a.chi2 k _ _ _
     (⊎_elim
-    (λ v. let q = last-kept f last a.options a.chi2 k _ v.0.taken v.3.ensures in (v.6 ∙ q.0, v.7 ∙ q.1))
-    (λ v. let q = last-not f last a.options a.chi2 k v.0.left in (v.1 ∙ q.0, v.2 ∙ q.1))
+    (λ v. let q = last_kept f last a.options a.chi2 k _ v.0.taken v.3.ensures in (v.6 ∙ q.0, v.7 ∙ q.1))
+    (λ v. let q = last_not f last a.options a.chi2 k v.0.left in (v.1 ∙ q.0, v.2 ∙ q.1))
     c.if-last-chi2.branch)
     (record { room = room c.before.before.before.before.before.before.before.before.before.before.before.before; kept = under.auto.1.1.1.1.1.1.1.1.0 }) under.ensures

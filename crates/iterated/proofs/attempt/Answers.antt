@@ -7,7 +7,7 @@ use lib.Seq.{length-take-le}
 use Rattle.limits.specs.Limits.{max_terms}
 use Rattle.design.proofs.Runs.{named, read}
 use Rattle.outcome.proofs.Front.{front_size}
-use Rattle.iterated.proofs.Laws.{array_long, set_front, left-front, accepted, rejected}
+use Rattle.iterated.proofs.Laws.{array_long, set_front, left_front, accepted, rejected}
 use Rattle.iterated.proofs.attempt.Goals as goal
 use Rattle.iterated.proofs.attempt.Goals.{After-propose-next}
 
@@ -70,5 +70,5 @@ residuals_under_state-requires c = record { s_value = c.requires.s_value.counted
 
 pub returns : goal.returns
 returns c =
-    let a = c.args in record { tried = rejected c.propose-next.ensures a.options a.chi2 c.huber_threshold-k.ensures c.if-next-chi2.false; left = (left-front c.requires.s_value.counted (record { room = room c.before.before.before.before.before.before.before.before.before.before.before.before; kept = c.residuals_under_state.auto.1.1.1.1.1.1.1.1.1.0 }) _ (omega arith)
+    let a = c.args in record { tried = rejected c.propose-next.ensures a.options a.chi2 c.huber_threshold-k.ensures c.if-next-chi2.false; left = (left_front c.requires.s_value.counted (record { room = room c.before.before.before.before.before.before.before.before.before.before.before.before; kept = c.residuals_under_state.auto.1.1.1.1.1.1.1.1.1.0 }) _ (omega arith)
           c.residuals_under_state.ensures, ) }

@@ -13,8 +13,7 @@ loop-j-init c =
 
 pub loop-j-preserved : goal.loop-j-preserved
 loop-j-preserved c =
-    let u = c.loop-j in
-    (
+    let u = c.loop-j in (
       omega arith,
       rw (add-one u.j)
           (partway.step _ _ u.j u.change _ nan (omega arith) u.invariant.1

@@ -6,10 +6,10 @@ use lib.ListN.{length}
 use lib.Seq.{length-take-le}
 use lib.Ieee.{Float}
 use Rattle.design.specs.Design.{RunInputs, run_inputs}
-use Rattle.outcome.proofs.Front.{front_size, renewed, Renewed, front_long, front_fits, front-count}
+use Rattle.outcome.proofs.Front.{front_size, renewed, Renewed, front_long, front_fits, front_count}
 use Rattle.outcome.proofs.Laws.{finish_ready}
 use Rattle.outcome.proofs.Runs.{fits_front}
-use Rattle.iterated.proofs.Run.{Written, out-long, scratch-fits, scratch-long, Searched, searched, solved-last, last_in_order}
+use Rattle.iterated.proofs.Run.{Written, out_long, scratch_fits, scratch_long, Searched, searched, solved_last, last_in_order}
 use Rattle.iterated.proofs.Run.{left_again, run-fitted}
 use Rattle.iterated.proofs.fit_run.Goals as goal
 use Rattle.iterated.proofs.fit_run.Goals.{After-apply_final_step-last, After-changes, After-copy, After-run_lm_loop-lm, Start}
@@ -76,7 +76,7 @@ pub slice_bounds-run_lm_loop-end : goal.slice_bounds-run_lm_loop-end
 slice_bounds-run_lm_loop-end c = front_fits (wrote_start c.before.before)
 
 pub slice_bounds-run_lm_loop-end-2 : goal.slice_bounds-run_lm_loop-end-2
-slice_bounds-run_lm_loop-end-2 c = sym (front-count (wrote_start c.before.before.before))
+slice_bounds-run_lm_loop-end-2 c = sym (front_count (wrote_start c.before.before.before))
 
 pub slice_bounds-run_lm_loop-end-3 : goal.slice_bounds-run_lm_loop-end-3
 slice_bounds-run_lm_loop-end-3 c = c.requires.2
@@ -87,29 +87,29 @@ slice_bounds-run_lm_loop-end-4 c = front_size _ _ c.requires.2
 -- ---- the calls
 pub run_lm_loop-lm-requires : goal.run_lm_loop-lm-requires
 run_lm_loop-lm-requires c =
-    fits_front (run c.before.before.before.before.before.before.before.before.before.before.before.before.before.before.before.before.before.before.before) _ c.args.need c.args.scratch.now (front-count (wrote_start c.before.before.before.before)) c.requires.s_value c.requires.counted c.requires.2
+    fits_front (run c.before.before.before.before.before.before.before.before.before.before.before.before.before.before.before.before.before.before.before) _ c.args.need c.args.scratch.now (front_count (wrote_start c.before.before.before.before)) c.requires.s_value c.requires.counted c.requires.2
 
 pub slice_bounds-apply_final_step-end : goal.slice_bounds-apply_final_step-end
 slice_bounds-apply_final_step-end c = front_fits (wrote_set c.before.before.before.before)
 
 pub slice_bounds-apply_final_step-end-2 : goal.slice_bounds-apply_final_step-end-2
-slice_bounds-apply_final_step-end-2 c = sym (front-count (wrote_set c.before.before.before.before.before))
+slice_bounds-apply_final_step-end-2 c = sym (front_count (wrote_set c.before.before.before.before.before))
 
 pub slice_bounds-apply_final_step-end-3 : goal.slice_bounds-apply_final_step-end-3
 slice_bounds-apply_final_step-end-3 c = front_fits (wrote_scratch c.before.before.before.before.before)
 
 pub slice_bounds-apply_final_step-end-4 : goal.slice_bounds-apply_final_step-end-4
-slice_bounds-apply_final_step-end-4 c = sym (front-count (wrote_scratch c.before.before.before.before.before.before))
+slice_bounds-apply_final_step-end-4 c = sym (front_count (wrote_scratch c.before.before.before.before.before.before))
 
 pub apply_final_step-last-requires : goal.apply_final_step-last-requires
 apply_final_step-last-requires c =
-    record { s_value = fits_front (run c.before.before.before.before.before.before.before.before.before.before.before.before.before.before.before.before.before.before.before.before.before.before.before.before.before.before) _ c.args.need _ (front-count (wrote_set c.before.before.before.before.before.before)) c.requires.s_value c.requires.counted (front_fits (wrote_scratch c.before.before.before.before.before.before)); fits = (left_again (run c.before.before.before.before.before.before.before.before.before.before.before.before.before.before.before.before.before.before.before.before.before.before.before.before.before.before) _ _ c.args.need _ _ _ _ (wrote_set c.before.before.before.before.before.before) (wrote_scratch c.before.before.before.before.before.before) c.run_lm_loop-lm.ensures.left, ) }
+    record { s_value = fits_front (run c.before.before.before.before.before.before.before.before.before.before.before.before.before.before.before.before.before.before.before.before.before.before.before.before.before.before) _ c.args.need _ (front_count (wrote_set c.before.before.before.before.before.before)) c.requires.s_value c.requires.counted (front_fits (wrote_scratch c.before.before.before.before.before.before)); fits = (left_again (run c.before.before.before.before.before.before.before.before.before.before.before.before.before.before.before.before.before.before.before.before.before.before.before.before.before.before) _ _ c.args.need _ _ _ _ (wrote_set c.before.before.before.before.before.before) (wrote_scratch c.before.before.before.before.before.before) c.run_lm_loop-lm.ensures.left, ) }
 
 pub slice_bounds-changes-end : goal.slice_bounds-changes-end
 slice_bounds-changes-end c = front_fits (wrote_all c.before.before.before.before.before).kept
 
 pub slice_bounds-changes-end-2 : goal.slice_bounds-changes-end-2
-slice_bounds-changes-end-2 c = sym (front-count (wrote_all c.before.before.before.before.before).kept)
+slice_bounds-changes-end-2 c = sym (front_count (wrote_all c.before.before.before.before.before).kept)
 
 pub slice_bounds-changes-end-3 : goal.slice_bounds-changes-end-3
 slice_bounds-changes-end-3 c = c.requires.4
@@ -119,27 +119,27 @@ slice_bounds-changes-end-4 c = front_size _ _ c.requires.4
 
 pub changes-requires : goal.changes-requires
 changes-requires c =
-    let e = front-count (wrote_all c.before.before.before.before.before.before).kept in
+    let e = front_count (wrote_all c.before.before.before.before.before.before).kept in
     (sym e, length-take-le (run c.before.before.before.before.before.before.before.before.before.before.before.before.before.before.before.before.before.before.before.before.before.before.before.before.before.before.before.before.before.before.before.before.before).m c.args.change.now c.requires.4 ∙ sym e)
 
 pub sky_of_sum-sky-requires : goal.sky_of_sum-sky-requires
 sky_of_sum-sky-requires c = let n = c.requires.s_value in omega (arith, n.stars, n.used_few)
 
 pub slice_bounds-finish-end : goal.slice_bounds-finish-end
-slice_bounds-finish-end c = scratch-fits (wrote_all c.before.before.before.before.before.before.before.before.before.before.before.before)
+slice_bounds-finish-end c = scratch_fits (wrote_all c.before.before.before.before.before.before.before.before.before.before.before.before)
 
 pub slice_bounds-finish-end-2 : goal.slice_bounds-finish-end-2
-slice_bounds-finish-end-2 c = front_size _ _ (scratch-fits (wrote_all c.before.before.before.before.before.before.before.before.before.before.before.before.before))
+slice_bounds-finish-end-2 c = front_size _ _ (scratch_fits (wrote_all c.before.before.before.before.before.before.before.before.before.before.before.before.before))
 
 pub finish-requires : goal.finish-requires
 finish-requires c =
-    let f = fits_front (run c.before.before.before.before.before.before.before.before.before.before.before.before.before.before.before.before.before.before.before.before.before.before.before.before.before.before.before.before.before.before.before.before.before.before.before.before.before.before.before.before) _ c.args.need _ refl c.requires.s_value c.requires.counted (scratch-fits (wrote_all c.before.before.before.before.before.before.before.before.before.before.before.before.before)) in
+    let f = fits_front (run c.before.before.before.before.before.before.before.before.before.before.before.before.before.before.before.before.before.before.before.before.before.before.before.before.before.before.before.before.before.before.before.before.before.before.before.before.before.before.before.before) _ c.args.need _ refl c.requires.s_value c.requires.counted (scratch_fits (wrote_all c.before.before.before.before.before.before.before.before.before.before.before.before.before)) in
     finish_ready (run c.before.before.before.before.before.before.before.before.before.before.before.before.before.before.before.before.before.before.before.before.before.before.before.before.before.before.before.before.before.before.before.before.before.before.before.before.before.before.before.before) _ c.args.sigma.now c.args.diagnostics.now c.apply_final_step-last.result.solved _ f
-    (solved-last (wrote_all c.before.before.before.before.before.before.before.before.before.before.before.before.before) (came c.before.before.before.before.before.before.before.before.before.before.before.before.before)) (last_in_order (run c.before.before.before.before.before.before.before.before.before.before.before.before.before.before.before.before.before.before.before.before.before.before.before.before.before.before.before.before.before.before.before.before.before.before.before.before.before.before.before.before) c.args.options _ _) c.requires.5 c.requires.6
+    (solved_last (wrote_all c.before.before.before.before.before.before.before.before.before.before.before.before.before) (came c.before.before.before.before.before.before.before.before.before.before.before.before.before)) (last_in_order (run c.before.before.before.before.before.before.before.before.before.before.before.before.before.before.before.before.before.before.before.before.before.before.before.before.before.before.before.before.before.before.before.before.before.before.before.before.before.before.before.before) c.args.options _ _) c.requires.5 c.requires.6
 
 pub shape_of-out : goal.shape_of-out
 shape_of-out c =
-    out-long (wrote_all c.before.before.before.before.before.before.before.before.before.before.before.before.before.before.before.before.before.before.before.before)
+    out_long (wrote_all c.before.before.before.before.before.before.before.before.before.before.before.before.before.before.before.before.before.before.before.before)
 
 pub shape_of-change : goal.shape_of-change
 shape_of-change c = front_long (wrote_change c.before.before.before.before.before.before.before.before.before.before.before.before.before)
@@ -148,8 +148,8 @@ pub shape_of-scratch : goal.shape_of-scratch
 shape_of-scratch c =
     let t = wrote_all c.before.before.before.before.before.before.before.before.before.before.before.before.before.before.before.before.before.before.before.before in
     let r : Renewed _ c.finish.new.1.1.1.1.1.1.1.1.1.1.0 _ =
-    record { room = scratch-fits t; kept = c.finish.auto.1.1.1.1.1.1.1.1.1.1.0 } in
-    front_long r ∙ scratch-long t
+    record { room = scratch_fits t; kept = c.finish.auto.1.1.1.1.1.1.1.1.1.1.0 } in
+    front_long r ∙ scratch_long t
 
 pub returns : goal.returns
 returns c =

@@ -4,7 +4,7 @@ use borrow.Author.Tests.{not-true, not-false}
 use native.Mathlib.Omega.{arith}
 use Rattle.sequence.proofs.Fills.{each-zero, each_step}
 use Rattle.jacobi.specs.Jacobi.{sweeps}
-use Rattle.jacobi.proofs.Laws.{pair-still, row_done, sweep_done, sweeps-on, sweeps-still, sweeps-none}
+use Rattle.jacobi.proofs.Laws.{pair-still, row_done, sweep_done, sweeps_on, sweeps-still, sweeps_none}
 use Rattle.jacobi.proofs.factorise.Goals as goal
 
 pub sweeps-init : goal.sweeps-init
@@ -46,12 +46,12 @@ sweeps-preserved c =
     let u = c.loop-p in
     let w = c.sweeps in
     let done = sweep_done _ _ _ _ _ _ _ _ (omega arith) (not-false _ c.if-not-turned.false-raw) u.invariant.2 in
-    (omega arith, omega arith, w.invariant.2, sweeps-on _ _ _ _ _ _ _ (omega arith) done w.invariant.3)
+    (omega arith, omega arith, w.invariant.2, sweeps_on _ _ _ _ _ _ _ (omega arith) done w.invariant.3)
 
 pub returns-after-sweeps : goal.returns-after-sweeps
 returns-after-sweeps c =
     let w = c.sweeps in
-    rw w.invariant.2 (sweeps-none _ _ _ _ _ _ (omega arith) w.invariant.3)
+    rw w.invariant.2 (sweeps_none _ _ _ _ _ _ (omega arith) w.invariant.3)
 
 pub returns-then-not-turned : goal.returns-then-not-turned
 returns-then-not-turned c =

@@ -2,9 +2,9 @@ use mathlib.Core.Path.{◌≡◌, refl, sym, ap, ◌∙◌}
 use Prim.Native.Nat.{ℕ, ◌+◌, ◌*◌, ◌/◌}
 use native.Mathlib.Omega.{arith}
 use lib.ListN.{length, length-set}
-use Rattle.sequence.proofs.Sums.{dot-part_none, dot-part_two, dot-part_last}
+use Rattle.sequence.proofs.Sums.{dot_part_none, dot_part_two, dot_part_last}
 use Rattle.jacobi.specs.Jacobi.{turn}
-use Rattle.jacobi.proofs.Laws.{turn-zero, turn-length, turn_step, turn_two, end-x, end-z, products_are}
+use Rattle.jacobi.proofs.Laws.{turn-zero, turn-length, turn_step, turn_two, end_x, end_z, products_are}
 use Rattle.jacobi.proofs.turn_on.Reads as reads
 use Rattle.jacobi.proofs.turn_on.Lts as lts
 use Rattle.jacobi.proofs.turn_on.Goals as goal
@@ -13,7 +13,7 @@ pub loop-half-init : goal.loop-half-init
 loop-half-init c =
     let a = c.args in
     let w = a.w.now in
-    (refl, omega arith, turn-zero _ _ _ _ _, refl, dot-part_none w a.x a.x, dot-part_none w a.z a.z, dot-part_none w a.x a.z)
+    (refl, omega arith, turn-zero _ _ _ _ _, refl, dot_part_none w a.x a.x, dot_part_none w a.z a.z, dot_part_none w a.x a.z)
 
 pub bounds-w-i-in-loop-half-3 : goal.bounds-w-i-in-loop-half-3
 bounds-w-i-in-loop-half-3 c = simp length-set (omega arith)
@@ -43,19 +43,19 @@ loop-half-preserved c =
     let ey : a.y + k + 1 ≡ a.y + (k + 1) = omega arith in
     let ez : a.z + k + 1 ≡ a.z + (k + 1) = omega arith in
     let after = turn_two _ _ k a.x a.y l u.w u.invariant.2 (omega arith) (omega arith) in
-    let x₀ = end-x _ _ a.n k a.x a.y a.z l u.w u.invariant.2 (omega arith) (omega arith) (omega arith) k (omega arith) (omega arith) in
-    let x₁ = end-x _ _ a.n k a.x a.y a.z l u.w u.invariant.2 (omega arith) (omega arith) (omega arith) (k + 1) (omega arith) (omega arith) in
-    let z₀ = end-z _ _ a.n k a.x a.y a.z l u.w u.invariant.2 (omega arith) (omega arith) (omega arith) k (omega arith) (omega arith) in
-    let z₁ = end-z _ _ a.n k a.x a.y a.z l u.w u.invariant.2 (omega arith) (omega arith) (omega arith) (k + 1) (omega arith) (omega arith) in
-    let g₀ = end-z _ _ a.n (k + 2) a.x a.y a.z l _ after (omega arith) (omega arith) (omega arith) k (omega arith) (omega arith) in
-    let g₁ = end-z _ _ a.n (k + 2) a.x a.y a.z l _ after (omega arith) (omega arith) (omega arith) (k + 1) (omega arith) (omega arith) in (
+    let x₀ = end_x _ _ a.n k a.x a.y a.z l u.w u.invariant.2 (omega arith) (omega arith) (omega arith) k (omega arith) (omega arith) in
+    let x₁ = end_x _ _ a.n k a.x a.y a.z l u.w u.invariant.2 (omega arith) (omega arith) (omega arith) (k + 1) (omega arith) (omega arith) in
+    let z₀ = end_z _ _ a.n k a.x a.y a.z l u.w u.invariant.2 (omega arith) (omega arith) (omega arith) k (omega arith) (omega arith) in
+    let z₁ = end_z _ _ a.n k a.x a.y a.z l u.w u.invariant.2 (omega arith) (omega arith) (omega arith) (k + 1) (omega arith) (omega arith) in
+    let g₀ = end_z _ _ a.n (k + 2) a.x a.y a.z l _ after (omega arith) (omega arith) (omega arith) k (omega arith) (omega arith) in
+    let g₁ = end_z _ _ a.n (k + 2) a.x a.y a.z l _ after (omega arith) (omega arith) (omega arith) (k + 1) (omega arith) (omega arith) in (
       u.invariant.0,
       omega arith,
       rw e after,
       simp length-set (omega arith),
-      rw (e, ex, ey) (dot-part_two T a.x a.x k _ _ _ _ _ u.invariant.4 (omega arith) (omega arith) x₀ x₀ x₁ x₁),
-      rw (e, ez) (dot-part_two T a.z a.z k _ _ _ _ _ u.invariant.5 (omega arith) (omega arith) z₀ z₀ z₁ z₁),
-      rw (e, ez) (dot-part_two T a.x a.z k _ _ _ _ _ u.invariant.6 (omega arith) (omega arith) x₀ g₀ (rw (ex, ey) x₁) g₁),
+      rw (e, ex, ey) (dot_part_two T a.x a.x k _ _ _ _ _ u.invariant.4 (omega arith) (omega arith) x₀ x₀ x₁ x₁),
+      rw (e, ez) (dot_part_two T a.z a.z k _ _ _ _ _ u.invariant.5 (omega arith) (omega arith) z₀ z₀ z₁ z₁),
+      rw (e, ez) (dot_part_two T a.x a.z k _ _ _ _ _ u.invariant.6 (omega arith) (omega arith) x₀ g₀ (rw (ex, ey) x₁) g₁),
     )
 
 pub returns-then-k-n : goal.returns-then-k-n
@@ -82,9 +82,9 @@ returns c =
     let eh : u.half ≡ a.n / 2 = omega arith in
     let en : a.n ≡ k + 1 = omega arith in
     let now = rw eh at u.invariant.2 in
-    let x₀ = end-x _ _ a.n k a.x a.y a.z l u.w now (omega arith) (omega arith) (omega arith) k (omega arith) (omega arith) in
-    let z₀ = end-z _ _ a.n k a.x a.y a.z l u.w now (omega arith) (omega arith) (omega arith) k (omega arith) (omega arith) in
+    let x₀ = end_x _ _ a.n k a.x a.y a.z l u.w now (omega arith) (omega arith) (omega arith) k (omega arith) (omega arith) in
+    let z₀ = end_z _ _ a.n k a.x a.y a.z l u.w now (omega arith) (omega arith) (omega arith) k (omega arith) (omega arith) in
     let done = turn_step _ _ k a.x a.y l u.w now (omega arith) (omega arith) ∙ ap (λ (j : ℕ). turn a.c a.s j a.x a.y l) (sym en) in record { turned = done; sums = (products_are a.n a.x a.z T _ _ _ _ done
-          (dot-part_last T a.x a.x k a.n _ _ _ en (rw eh at u.invariant.4) (omega arith) (omega arith) x₀ x₀)
-          (dot-part_last T a.z a.z k a.n _ _ _ en (rw eh at u.invariant.5) (omega arith) (omega arith) z₀ z₀)
-          (dot-part_last T a.x a.z k a.n _ _ _ en (rw eh at u.invariant.6) (omega arith) (omega arith) x₀ z₀), ) }
+          (dot_part_last T a.x a.x k a.n _ _ _ en (rw eh at u.invariant.4) (omega arith) (omega arith) x₀ x₀)
+          (dot_part_last T a.z a.z k a.n _ _ _ en (rw eh at u.invariant.5) (omega arith) (omega arith) z₀ z₀)
+          (dot_part_last T a.x a.z k a.n _ _ _ en (rw eh at u.invariant.6) (omega arith) (omega arith) x₀ z₀), ) }

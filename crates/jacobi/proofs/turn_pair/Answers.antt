@@ -3,8 +3,8 @@ use Prim.Native.Nat.{◌+◌, ◌*◌, ◌≤◌}
 use native.Mathlib.Omega.{arith}
 use lib.ListN.{length}
 use Rattle.sequence.proofs.Parts.{apart, inside}
-use Rattle.jacobi.proofs.Laws.{pair-turned}
-use Rattle.jacobi.proofs.Pairs.{turned_pair, turned-sums}
+use Rattle.jacobi.proofs.Laws.{pair_turned}
+use Rattle.jacobi.proofs.Pairs.{turned_pair, turned_sums}
 use Rattle.jacobi.proofs.turn_pair.Goals as goal
 use Rattle.jacobi.proofs.turn_pair.Goals.{Start}
 
@@ -23,7 +23,7 @@ turn-requires c = omega (arith, room c.before.before.before.before.before)
 
 pub returns-then-q-m : goal.returns-then-q-m
 returns-then-q-m c =
-    let own = c.requires in record { turned = λ b. pair-turned _ _ _ _ _ _ _ own.4 own.5 _ _ c.tangent-t.ensures c.cosine-c.ensures _ c.turn.ensures b; next = (λ l. absurd (omega arith), ) }
+    let own = c.requires in record { turned = λ b. pair_turned _ _ _ _ _ _ _ own.4 own.5 _ _ c.tangent-t.ensures c.cosine-c.ensures _ c.turn.ensures b; next = (λ l. absurd (omega arith), ) }
 
 pub overflow_add-y : goal.overflow_add-y
 overflow_add-y c = omega (arith, room c.before.before.before.before.before)
@@ -51,4 +51,4 @@ returns c =
     let first = c.turn_on-next.ensures.turned in
     let sums = c.turn_on-next.ensures.sums in
     let second = c.turn-2.ensures in
-    let t = c.tangent-t.ensures in record { turned = λ b. turned_pair _ _ _ _ _ _ _ _ _ _ first second below fits own.2 _ own.4 own.5 t c.cosine-c.ensures b; next = (λ l. turned-sums _ _ _ _ _ _ _ _ _ _ first second below fits own.2 _ sums, ) }
+    let t = c.tangent-t.ensures in record { turned = λ b. turned_pair _ _ _ _ _ _ _ _ _ _ first second below fits own.2 _ own.4 own.5 t c.cosine-c.ensures b; next = (λ l. turned_sums _ _ _ _ _ _ _ _ _ _ first second below fits own.2 _ sums, ) }

@@ -2,13 +2,13 @@ use mathlib.Core.Path.{refl}
 use mathlib.Core.Logic.{⊎_elim}
 use native.Mathlib.Omega.{arith}
 use lib.ListN.{length}
-use Rattle.sequence.proofs.Fills.{filling-start, filling-next, filling-end}
+use Rattle.sequence.proofs.Fills.{filling_start, filling_next, filling_end}
 use Rattle.linalg.specs.Linalg.{inverses}
-use Rattle.linalg.proofs.Laws.{taken_at, inverse-above, inverse-not, rank-none, rank-above, rank-not, rank-end}
+use Rattle.linalg.proofs.Laws.{taken_at, inverse_above, inverse_not, rank_none, rank_above, rank_not, rank_end}
 use Rattle.linalg.proofs.invert.Goals as goal
 
 pub loop-i-init : goal.loop-i-init
-loop-i-init c = (refl, omega arith, rank-none _ _ _, filling-start)
+loop-i-init c = (refl, omega arith, rank_none _ _ _, filling_start)
 
 pub offset_bounds-s-o : goal.offset_bounds-s-o
 offset_bounds-s-o c = omega (arith, taken_at c.args.o.now c.loop-i.i c.requires (omega arith))
@@ -21,15 +21,15 @@ loop-i-preserved c =
     let u = c.loop-i in
     ⊎_elim
     (λ k.
-    let rank = rank-above _ _ _ u.i u.rank u.invariant.2 k.0.taken in
-    rw (k.1, k.2) (u.invariant.0, omega arith, rank, filling-next u.invariant.3 (omega arith) (omega arith) (inverse-above _ _ k.0.taken)))
+    let rank = rank_above _ _ _ u.i u.rank u.invariant.2 k.0.taken in
+    rw (k.1, k.2) (u.invariant.0, omega arith, rank, filling_next u.invariant.3 (omega arith) (omega arith) (inverse_above _ _ k.0.taken)))
     (λ k.
-    let rank = rank-not _ _ _ u.i u.rank u.invariant.2 k.0.left in
-    rw (k.1, k.2) (u.invariant.0, omega arith, rank, filling-next u.invariant.3 (omega arith) (omega arith) (inverse-not _ _ k.0.left)))
+    let rank = rank_not _ _ _ u.i u.rank u.invariant.2 k.0.left in
+    rw (k.1, k.2) (u.invariant.0, omega arith, rank, filling_next u.invariant.3 (omega arith) (omega arith) (inverse_not _ _ k.0.left)))
     c.if-v-t.branch
 
 pub returns : goal.returns
 unfolding inverses
 returns c =
     let u = c.loop-i in
-    rw (filling-end u.invariant.3 (omega arith), rank-end _ _ _ u.i (length c.args.o.now) u.rank (omega arith) u.invariant.2)
+    rw (filling_end u.invariant.3 (omega arith), rank_end _ _ _ u.i (length c.args.o.now) u.rank (omega arith) u.invariant.2)

@@ -5,13 +5,13 @@ use native.Mathlib.Omega.{arith}
 use lib.ListN.{length, get_or}
 use Rattle.sequence.specs.Sequence.{at, dot}
 use Rattle.sequence.proofs.Parts.{length_part}
-use Rattle.sequence.proofs.Fills.{filling-start, filling-next, filling-end}
+use Rattle.sequence.proofs.Fills.{filling_start, filling_next, filling_end}
 use Rattle.linalg.specs.Linalg.{projected}
 use Rattle.linalg.proofs.Laws.{lies}
 use Rattle.linalg.proofs.project.Goals as goal
 
 pub loop-i-init : goal.loop-i-init
-loop-i-init c = (refl, filling-start)
+loop-i-init c = (refl, filling_start)
 
 pub overflow_mul-x : goal.overflow_mul-x
 overflow_mul-x c = omega (arith, lies c.args.h c.args.w.now c.args.o.now c.loop-i.i c.requires.0 (omega arith))
@@ -39,8 +39,8 @@ loop-i-preserved c =
     let x = get_or a.o.now u.i 0 * a.h in
     let room : x + a.rows ≤ length a.w.now = omega (arith, lies a.h a.w.now a.o.now u.i c.requires.0 (omega arith)) in
     let e = simp (add-sub_cancel_left, length_part a.w.now x a.rows room) at c.dot.ensures in
-    (u.invariant.0, filling-next u.invariant.1 (omega arith) (omega arith) (rw e))
+    (u.invariant.0, filling_next u.invariant.1 (omega arith) (omega arith) (rw e))
 
 pub returns : goal.returns
 unfolding projected
-returns c = filling-end c.loop-i.invariant.1 (omega arith)
+returns c = filling_end c.loop-i.invariant.1 (omega arith)

@@ -1,7 +1,7 @@
 use mathlib.Core.Path.{refl}
 use mathlib.Core.Logic.{⊎_elim}
 use native.Mathlib.Omega.{arith}
-use Rattle.sequence.proofs.Sums.{summing_start, summing-next, summing-skip, summing-end}
+use Rattle.sequence.proofs.Sums.{summing_start, summing_next, summing_skip, summing_end}
 use Rattle.linalg.specs.Linalg.{scaled_variance}
 use Rattle.linalg.proofs.Laws.{not_zero, is_zero}
 use Rattle.linalg.proofs.scaled_variance.Goals as goal
@@ -16,10 +16,10 @@ pub loop-i-preserved : goal.loop-i-preserved
 loop-i-preserved c =
     let u = c.loop-i in
     ⊎_elim
-    (λ k. rw k.2 (u.invariant.0, summing-next u.invariant.1 (omega arith) (not_zero _ k.0.taken) (rw k.1.ensures)))
-    (λ k. rw k.1 (u.invariant.0, summing-skip u.invariant.1 (omega arith) (is_zero _ k.0.left)))
+    (λ k. rw k.2 (u.invariant.0, summing_next u.invariant.1 (omega arith) (not_zero _ k.0.taken) (rw k.1.ensures)))
+    (λ k. rw k.1 (u.invariant.0, summing_skip u.invariant.1 (omega arith) (is_zero _ k.0.left)))
     c.if-s.branch
 
 pub returns : goal.returns
 unfolding scaled_variance
-returns c = summing-end c.loop-i.invariant.1 (omega arith)
+returns c = summing_end c.loop-i.invariant.1 (omega arith)

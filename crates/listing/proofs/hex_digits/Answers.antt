@@ -1,6 +1,6 @@
 use native.Mathlib.Omega.{arith}
 use mathlib.Core.Path.{refl, ◌∙◌}
-use Rattle.sequence.proofs.Fills.{filled_none, stored, filled-end, filled-all}
+use Rattle.sequence.proofs.Fills.{filled_none, stored, filled_end, filled_all}
 use Rattle.listing.specs.Text.{hexadecimal}
 use Rattle.listing.proofs.hex_digits.Goals as goal
 
@@ -16,4 +16,4 @@ pub returns : goal.returns
 unfolding hexadecimal
 returns c =
     let l = c.loop-i in
-    filled-end _ l.i 16 _ _ (omega arith) (omega arith) l.invariant.2 ∙ filled-all _ 16 _ (omega arith)
+    filled_end _ l.i 16 _ _ (omega arith) (omega arith) l.invariant.2 ∙ filled_all _ 16 _ (omega arith)

@@ -3,12 +3,12 @@ use native.Mathlib.Omega.{arith}
 use mathlib.Core.Path.{◌≡◌, refl}
 use Rattle.sequence.specs.Sequence.{at}
 use Rattle.listing.specs.Listing.{term_lines}
-use Rattle.listing.proofs.Writes.{wrote-texts-start, wrote-texts-next}
+use Rattle.listing.proofs.Writes.{wrote_texts_start, wrote_texts_next}
 use Rattle.listing.proofs.put_terms.Invariants.{line_of}
 use Rattle.listing.proofs.put_terms.Goals as goal
 
 pub loop-j-init : goal.loop-j-init
-loop-j-init c = (omega arith, refl, omega arith, wrote-texts-start _ _ _ (omega arith))
+loop-j-init c = (omega arith, refl, omega arith, wrote_texts_start _ _ _ (omega arith))
 
 pub loop-j-preserved : goal.loop-j-preserved
 loop-j-preserved c =
@@ -16,7 +16,7 @@ loop-j-preserved c =
     let l = c.loop-j in
     let w = c.put_term-next in
     let line = line_of a.names.now a.coefficients.now a.sigma.now in
-    (omega arith, omega arith, omega arith, wrote-texts-next line l.j l.invariant.3 (rw add-sub_cancel_left at w.ensures.0))
+    (omega arith, omega arith, omega arith, wrote_texts_next line l.j l.invariant.3 (rw add-sub_cancel_left at w.ensures.0))
 
 pub returns : goal.returns
 unfolding term_lines

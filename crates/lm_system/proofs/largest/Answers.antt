@@ -2,7 +2,7 @@ use native.Mathlib.Omega.{arith}
 use mathlib.Core.Path.{refl}
 use lib.ListN.{length, get_or}
 use Rattle.float.specs.Float.{#0}
-use Rattle.sequence.proofs.Fills.{each_none, each_next, each-end}
+use Rattle.sequence.proofs.Fills.{each_none, each_next, each_end}
 use Rattle.terms.specs.Slots.{slot}
 use Rattle.lm_system.specs.System.{largest}
 use Rattle.lm_system.proofs.ByName.{rotational_by_kind}
@@ -30,4 +30,4 @@ unfolding largest
 returns c =
     let u = c.loop-i in
     let a = c.args in
-    each-end u.i (length a.free.now) (turn a.names.now a.free.now a.x.now) #0 u.most (omega arith) (omega arith) u.invariant.1
+    each_end u.i (length a.free.now) (turn a.names.now a.free.now a.x.now) #0 u.most (omega arith) (omega arith) u.invariant.1

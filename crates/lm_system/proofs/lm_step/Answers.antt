@@ -5,9 +5,9 @@ use mathlib.Core.Path.{◌≡◌}
 use mathlib.Core.List.{List}
 use lib.ListN.{length}
 use lib.Ieee.{Float}
-use Rattle.design.proofs.Runs.{free-room}
-use Rattle.outcome.proofs.Runs.{columns-ready, columns-built}
-use Rattle.lm_system.proofs.Laws.{there, weighed-there, stepped}
+use Rattle.design.proofs.Runs.{free_room}
+use Rattle.outcome.proofs.Runs.{columns_ready, columns_built}
+use Rattle.lm_system.proofs.Laws.{there, weighed_there, stepped}
 use Rattle.lm_system.proofs.lm_step.Goals as goal
 use Rattle.lm_system.proofs.lm_step.Goals.{After-weighed_residuals}
 
@@ -26,12 +26,12 @@ weighed_residuals-requires c =
 
 -- ---- the calls
 pub build_design_matrix-requires : goal.build_design_matrix-requires
-build_design_matrix-requires c = columns-ready _ _ (left c.before.before.before) c.requires.s_value (long c)
+build_design_matrix-requires c = columns_ready _ _ (left c.before.before.before) c.requires.s_value (long c)
 
 pub solve_damped-requires : goal.solve_damped-requires
 solve_damped-requires c =
     let f = c.requires.s_value in
-    let few = free-room _ f.counted (2 * length c.args.used.now + 2 * length c.args.set.now) in
+    let few = free_room _ f.counted (2 * length c.args.used.now + 2 * length c.args.set.now) in
     (f.counted.some_free, omega (arith, f.counted), omega (arith, f.counted.free_few), omega (arith, few, f.room), omega arith)
 
 pub returns : goal.returns
@@ -41,6 +41,6 @@ returns c =
     let ys = c.weighed_residuals.new.1.1.1.1.0 in
     stepped f.counted a.set.now (left c.before.before.before.before.before.before.before.before.before.before) c.build_design_matrix.new.1.1.1.1.1.1.1.0 c.solve_damped.new.0
     a.k a.lambda c.solve_damped.result
-    (weighed-there f.counted a.set.now a.w.now ys a.k (omega arith) c.requires.fits c.weighed_residuals.auto.1.1.1.1.0
+    (weighed_there f.counted a.set.now a.w.now ys a.k (omega arith) c.requires.fits c.weighed_residuals.auto.1.1.1.1.0
     c.weighed_residuals.ensures)
-    (columns-built _ _ (left c.before.before.before.before.before.before.before.before.before.before) f (long c.before.before.before.before.before.before.before) _ _ c.build_design_matrix.ensures) c.solve_damped.ensures
+    (columns_built _ _ (left c.before.before.before.before.before.before.before.before.before.before) f (long c.before.before.before.before.before.before.before) _ _ c.build_design_matrix.ensures) c.solve_damped.ensures

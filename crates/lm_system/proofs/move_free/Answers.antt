@@ -2,7 +2,7 @@ use Prim.Native.Nat.{◌<◌}
 use native.Mathlib.Omega.{arith}
 use mathlib.Core.Path.{refl}
 use lib.ListN.{length, set, length-set}
-use Rattle.sequence.proofs.Fills.{each_none, each_next, each-end}
+use Rattle.sequence.proofs.Fills.{each_none, each_next, each_end}
 use Rattle.lm_system.specs.System.{moved}
 use Rattle.lm_system.proofs.move_free.Invariants.{turn}
 use Rattle.lm_system.proofs.move_free.Goals as goal
@@ -41,4 +41,4 @@ unfolding moved
 returns c =
     let u = c.loop-i in
     let a = c.args in
-    each-end u.i (length a.free.now) (turn a.free.now a.x.now) a.set.now u.set (omega arith) (omega arith) u.invariant.2
+    each_end u.i (length a.free.now) (turn a.free.now a.x.now) a.set.now u.set (omega arith) (omega arith) u.invariant.2

@@ -1,7 +1,7 @@
 -- `lm_system::residuals_under_state` meets its contract. Assumes nothing.
 use native.Mathlib.Omega.{arith}
 use Rattle.design.proofs.Runs.{seen}
-use Rattle.lm_system.proofs.Laws.{under-set}
+use Rattle.lm_system.proofs.Laws.{under_set}
 use Rattle.lm_system.proofs.residuals_under_state.Goals as goal
 
 pub predict-requires : goal.predict-requires
@@ -12,5 +12,5 @@ subtract_from_differences-requires c = (c.requires.s_value.dd_count, c.requires.
 
 pub returns : goal.returns
 returns c =
-    under-set c.requires.s_value c.args.set.now c.predict.new.1.1.1.1.1.1.0 c.subtract_from_differences.new.1.1.1.0 (omega arith)
+    under_set c.requires.s_value c.args.set.now c.predict.new.1.1.1.1.1.1.0 c.subtract_from_differences.new.1.1.1.0 (omega arith)
     c.predict.ensures c.subtract_from_differences.auto.1.1.1.0 c.subtract_from_differences.ensures

@@ -4,8 +4,8 @@ use Prim.Native.Nat.{ℕ, ◌<◌, ◌-◌}
 use native.Mathlib.Omega.{arith}
 use lib.ListN.{length, length-set, take, drop, get_or}
 use Rattle.sequence.specs.Sequence.{table}
-use Rattle.sequence.proofs.Fills.{filled_none, filled-all, stored}
-use Rattle.order.proofs.All.{all_up_to, all_le, all-sets, all_take, all_drop, all_get_d}
+use Rattle.sequence.proofs.Fills.{filled_none, filled_all, stored}
+use Rattle.order.proofs.All.{all_up_to, all_le, all_sets, all_take, all_drop, all_get_d}
 use Rattle.order.proofs.Laws.{order-zero, order-step, order_end}
 use Rattle.order.proofs.order.Goals as goal
 
@@ -25,7 +25,7 @@ loop-k-init c =
     let o = a.o.now in
     let m = length o in
     let e : u.j ≡ m = omega arith in
-    let f : u.o ≡ table m (λ k. k) = (rw e at u.invariant.3) ∙ filled-all (λ k. k) m o (omega arith) in
+    let f : u.o ≡ table m (λ k. k) = (rw e at u.invariant.3) ∙ filled_all (λ k. k) m o (omega arith) in
     (omega arith, omega arith, rw f (all_up_to m m (omega arith)), order-zero m a.s.now u.o f)
 
 pub best-i-requires : goal.best-i-requires
@@ -46,7 +46,7 @@ loop-k-preserved c =
     let between = all_take P (i - u.k) (drop u.k u.o) (all_drop P u.k u.o u.invariant.2) in (
       omega arith,
       omega arith,
-      rw r (all-sets P u.o u.k (get_or u.o i 0 ∷ take (i - u.k) (drop u.k u.o)) u.invariant.2 (taken, between)),
+      rw r (all_sets P u.o u.k (get_or u.o i 0 ∷ take (i - u.k) (drop u.k u.o)) u.invariant.2 (taken, between)),
       order-step m u.k i a.s.now u.o _ _ (omega arith) (omega arith) best.low best.high best.is r u.invariant.3,
     )
 

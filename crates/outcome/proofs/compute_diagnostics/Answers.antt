@@ -1,7 +1,7 @@
 use native.Mathlib.Omega.{arith}
 use mathlib.Core.Path.{◌≡◌, refl, ap, ◌∙◌}
 use lib.ListN.{length-set}
-use Rattle.sequence.proofs.Concat.{over_none, over-end}
+use Rattle.sequence.proofs.Concat.{over_none, over_end}
 use Rattle.stats.specs.Stats.{sqrt, variance}
 use Rattle.outcome.proofs.Diagnostics.{diagnostic_numbers_next}
 use Rattle.outcome.proofs.compute_diagnostics.Invariants.{numbers}
@@ -38,4 +38,4 @@ pub returns : goal.returns
 returns c =
     let u = c.loop-i in
     let a = c.args in
-    over-end _ 3 (λ i. refl) u.i a.n a.out.now u.out (omega arith) (omega arith) u.invariant.3
+    over_end _ 3 (λ i. refl) u.i a.n a.out.now u.out (omega arith) (omega arith) u.invariant.3

@@ -4,7 +4,7 @@ use native.Mathlib.Omega.{arith}
 use mathlib.Core.Path.{refl}
 use lib.ListN.{length}
 use Rattle.sequence.proofs.Only.{length_cut}
-use Rattle.outcome.proofs.Front.{front_size, Renewed, front-count}
+use Rattle.outcome.proofs.Front.{front_size, Renewed, front_count}
 use Rattle.outcome.proofs.Laws.{order_long, placed_lent, sigma_given, diagnostics_given}
 use Rattle.outcome.proofs.finish.Goals as goal
 
@@ -17,7 +17,7 @@ slice_bounds-compute_sigma-end-2 c = front_size _ _ (omega arith)
 pub compute_sigma-requires : goal.compute_sigma-requires
 compute_sigma-requires c =
     let r : Renewed c.args.sigma.now c.fill.new.0 c.args.m = record { room = c.requires.7; kept = c.fill.auto.0 } in
-    (omega (arith, c.requires.1, c.requires.2), rw (front-count r) c.requires.3)
+    (omega (arith, c.requires.1, c.requires.2), rw (front_count r) c.requires.3)
 
 pub overflow_add-c : goal.overflow_add-c
 overflow_add-c c = omega (arith, c.requires.4, c.well_formed.1.1.1.1.1.1.1.1.1.1.0)

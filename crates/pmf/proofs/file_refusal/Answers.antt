@@ -5,7 +5,7 @@ use mathlib.Core.Path.{◌≡◌, sym, ◌∙◌}
 use lib.ListN.{length}
 use Rattle.sequence.proofs.Tests.{was_no, was_yes}
 use Rattle.pmf.specs.File.{file_terms, file_stars, term_count, star_count, file_size}
-use Rattle.pmf.proofs.Header.{Header, no_length, no-mark, no-version, no_mode, no-terms, no-stars, no_size, none}
+use Rattle.pmf.proofs.Header.{Header, no_length, no_mark, no_version, no_mode, no_terms, no_stars, no_size, none}
 use Rattle.pmf.proofs.file_refusal.Goals as goal
 use Rattle.pmf.proofs.file_refusal.Goals.{Else-not-mode_known}
 
@@ -23,11 +23,11 @@ pub returns-then-s-lt9 : goal.returns-then-s-lt9
 returns-then-s-lt9 c = record { answer = no_length _ c.if-s-lt9.true; formed = λ z. absurd (omega arith) }
 
 pub returns-then-not-marked : goal.returns-then-not-marked
-returns-then-not-marked c = record { answer = no-mark _ c.if-s-lt9.false (was_no c.marked.ensures c.if-not-marked.true-raw); formed = λ z. absurd (omega arith) }
+returns-then-not-marked c = record { answer = no_mark _ c.if-s-lt9.false (was_no c.marked.ensures c.if-not-marked.true-raw); formed = λ z. absurd (omega arith) }
 
 pub returns-then-u16_at-ne1 : goal.returns-then-u16_at-ne1
 returns-then-u16_at-ne1 c =
-    let mark = was_yes c.marked.ensures c.if-not-marked.false-raw in record { answer = no-version _ c.if-s-lt9.false mark (λ e. c.if-u16_at-ne1.true (c.u16_at.ensures.value ∙ e)); formed = λ z. absurd (omega arith) }
+    let mark = was_yes c.marked.ensures c.if-not-marked.false-raw in record { answer = no_version _ c.if-s-lt9.false mark (λ e. c.if-u16_at-ne1.true (c.u16_at.ensures.value ∙ e)); formed = λ z. absurd (omega arith) }
 
 pub returns-then-not-mode_known : goal.returns-then-not-mode_known
 returns-then-not-mode_known c =
@@ -36,12 +36,12 @@ returns-then-not-mode_known c =
 
 pub returns-then-m-gt-FILE_TERMS : goal.returns-then-m-gt-FILE_TERMS
 returns-then-m-gt-FILE_TERMS c =
-    let m = c.size-m.ensures.value in record { answer = no-terms _ (header c.before.before.before.before) (omega arith); formed = λ z. absurd (omega arith) }
+    let m = c.size-m.ensures.value in record { answer = no_terms _ (header c.before.before.before.before) (omega arith); formed = λ z. absurd (omega arith) }
 
 pub returns-then-n-gt-FILE_STARS : goal.returns-then-n-gt-FILE_STARS
 returns-then-n-gt-FILE_STARS c =
     let m = c.size-m.ensures.value in
-    let n = c.u16_at-n.ensures.value in record { answer = no-stars _ (header c.before.before.before.before.before) (omega arith) (omega arith); formed = λ z. absurd (omega arith) }
+    let n = c.u16_at-n.ensures.value in record { answer = no_stars _ (header c.before.before.before.before.before) (omega arith) (omega arith); formed = λ z. absurd (omega arith) }
 
 pub returns-then-s-m : goal.returns-then-s-m
 returns-then-s-m c =

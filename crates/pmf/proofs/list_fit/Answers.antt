@@ -1,12 +1,12 @@
 -- `pmf::list_fit` meets its contract. Assumes nothing.
 use native.Mathlib.Omega.{arith}
 use Rattle.solver.specs.Call.{inputs}
-use Rattle.pmf.proofs.Listing.{room-ready, fit-text}
+use Rattle.pmf.proofs.Listing.{room_ready, fit_text_lem}
 use Rattle.pmf.proofs.list_fit.Goals as goal
 
 pub fit-r-requires : goal.fit-r-requires
 fit-r-requires c =
-    room-ready c.term_room-out.ensures c.term_room-change.ensures c.term_room-sigma.ensures c.diagnostics_room-diagnostics.ensures c.scratch_room-scratch.ensures
+    room_ready c.term_room-out.ensures c.term_room-change.ensures c.term_room-sigma.ensures c.diagnostics_room-diagnostics.ensures c.scratch_room-scratch.ensures
     _ c.requires.2
 
 pub put_fit-requires : goal.put_fit-requires
@@ -18,6 +18,6 @@ pub returns : goal.returns
 returns c =
     let a = c.args in
     let l = inputs a.names.now a.fixed.now a.coefficients.now a.dh.now a.dd.now a.pier.now a.sheets.now a.settings in
-    let t = fit-text c.term_room-out.ensures c.term_room-change.ensures c.term_room-sigma.ensures c.diagnostics_room-diagnostics.ensures
+    let t = fit_text_lem c.term_room-out.ensures c.term_room-change.ensures c.term_room-sigma.ensures c.diagnostics_room-diagnostics.ensures
     c.scratch_room-scratch.ensures a.mode l a.options _ c.fit-r.ensures in
     rw t c.put-Fit.ensures

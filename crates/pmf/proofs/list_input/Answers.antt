@@ -1,21 +1,21 @@
 -- `pmf::list_input` meets its contract. Assumes nothing.
 use Rattle.solver.specs.Call.{inputs}
-use Rattle.pmf.proofs.Listing.{asked-no, asked-pass, asked-ready}
+use Rattle.pmf.proofs.Listing.{asked_no, asked_pass, asked_ready}
 use Rattle.pmf.proofs.list_input.Goals as goal
 
 pub list_fit-requires : goal.list_fit-requires
 list_fit-requires c =
     let a = c.args in
-    let p = c.requires in record { settings_value = p.0; listing_room_in_bounds = (p.1, asked-ready a.mode _ a.options _ c.questions-asked.ensures c.enum_told-1.given.1) }
+    let p = c.requires in record { settings_value = p.0; listing_room_in_bounds = (p.1, asked_ready a.mode _ a.options _ c.questions-asked.ensures c.enum_told-1.given.1) }
 
 pub returns-in-No : goal.returns-in-No
 returns-in-No c =
     let a = c.args in
     let l = inputs a.names.now a.fixed.now a.coefficients.now a.dh.now a.dd.now a.pier.now a.sheets.now a.settings in
-    rw (asked-no a.mode l a.options _ c.questions-asked.ensures _ c.asked-1.given.1) c.put_refusal.ensures
+    rw (asked_no a.mode l a.options _ c.questions-asked.ensures _ c.asked-1.given.1) c.put_refusal.ensures
 
 pub returns-in-Pass : goal.returns-in-Pass
 returns-in-Pass c =
     let a = c.args in
     let l = inputs a.names.now a.fixed.now a.coefficients.now a.dh.now a.dd.now a.pier.now a.sheets.now a.settings in
-    rw (asked-pass a.mode l a.options _ c.questions-asked.ensures c.enum_told-1.given.1) c.list_fit.ensures
+    rw (asked_pass a.mode l a.options _ c.questions-asked.ensures c.enum_told-1.given.1) c.list_fit.ensures

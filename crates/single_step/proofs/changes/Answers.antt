@@ -5,7 +5,7 @@ use mathlib.Core.List.{List}
 use lib.ListN.{length, length-set}
 use lib.Ieee.{Float}
 use Rattle.sequence.specs.Sequence.{at, each}
-use Rattle.sequence.proofs.Fills.{each_none, each_next, each-end}
+use Rattle.sequence.proofs.Fills.{each_none, each_next, each_end}
 use Rattle.design.specs.Design.{scattered}
 use Rattle.single_step.proofs.changes.Invariants.{turn}
 use Rattle.single_step.proofs.changes.Goals as goal
@@ -38,5 +38,5 @@ pub returns : goal.returns
 returns c =
     let u = c.loop-i in
     let a = c.args in
-    let e = each-end u.i (length a.free.now) (turn a.free.now a.x.now) _ u.change (omega arith) (omega arith) u.invariant.2 in
+    let e = each_end u.i (length a.free.now) (turn a.free.now a.x.now) _ u.change (omega arith) (omega arith) u.invariant.2 in
     done a.free.now a.x.now u.change _ _ e c.fill.ensures

@@ -6,7 +6,7 @@ use Rattle.solver.specs.Call.{FitInputs, inputs, Buffers, buffers}
 use Rattle.design.specs.Design.{RunInputs, run_inputs, run_inputs_of}
 use Rattle.outcome.proofs.Front.{front_size}
 use Rattle.outcome.proofs.Runs.{listed_is}
-use Rattle.outcome.proofs.Call.{run-ready, run-fit}
+use Rattle.outcome.proofs.Call.{run_ready, run_fit}
 use Rattle.single_step.specs.SingleStep.{fitted_run}
 use Rattle.single_step.proofs.fit.Goals as goal
 use Rattle.single_step.proofs.fit.Goals.{After-all_indices, Start}
@@ -53,9 +53,9 @@ slice_bounds-fit_run-end-2 c = front_size _ _ (omega arith)
 
 pub fit_run-requires : goal.fit_run-requires
 fit_run-requires c =
-    run-ready (call c.before.before.before.before.before.before.before.before.before.before.before.before.before.before.before.before.before.before.before.before.before.before.before.before.before.before) (run c.before.before.before.before.before.before.before.before) _ (listed-run c.before.before.before.before.before.before.before.before) c.scratch_needed-need.ensures (lent c.before.before.before.before.before.before.before.before.before.before.before.before.before.before.before.before.before.before.before.before.before.before.before.before.before.before) c.requires
+    run_ready (call c.before.before.before.before.before.before.before.before.before.before.before.before.before.before.before.before.before.before.before.before.before.before.before.before.before.before) (run c.before.before.before.before.before.before.before.before) _ (listed-run c.before.before.before.before.before.before.before.before) c.scratch_needed-need.ensures (lent c.before.before.before.before.before.before.before.before.before.before.before.before.before.before.before.before.before.before.before.before.before.before.before.before.before.before) c.requires
 
 pub returns : goal.returns
 returns c =
-    run-fit (call c.before.before.before.before.before.before.before.before.before.before.before.before.before.before.before.before.before.before.before.before.before.before.before.before.before.before.before.before.before.before.before.before.before.before.before.before.before) (run c.before.before.before.before.before.before.before.before.before.before.before.before.before.before.before.before.before.before.before) _ (listed-run c.before.before.before.before.before.before.before.before.before.before.before.before.before.before.before.before.before.before.before) c.scratch_needed-need.ensures
+    run_fit (call c.before.before.before.before.before.before.before.before.before.before.before.before.before.before.before.before.before.before.before.before.before.before.before.before.before.before.before.before.before.before.before.before.before.before.before.before.before) (run c.before.before.before.before.before.before.before.before.before.before.before.before.before.before.before.before.before.before.before) _ (listed-run c.before.before.before.before.before.before.before.before.before.before.before.before.before.before.before.before.before.before.before) c.scratch_needed-need.ensures
     (λ k m. fitted_run k c.args.sigma_by m c.args.coefficients.now (lent c.before.before.before.before.before.before.before.before.before.before.before.before.before.before.before.before.before.before.before.before.before.before.before.before.before.before.before.before.before.before.before.before.before.before.before.before.before)) _ c.fit_run.ensures

@@ -8,12 +8,12 @@ use lib.Ieee.{Float}
 use lib.Seq.{length-take-le}
 use Rattle.solver.specs.Call.{buffers}
 use Rattle.design.specs.Design.{RunInputs, run_inputs}
-use Rattle.design.proofs.Runs.{counted-as, seen, named}
+use Rattle.design.proofs.Runs.{counted_as, seen, named}
 use Rattle.outcome.specs.Scratch.{count_of}
-use Rattle.outcome.proofs.Front.{front_size, renewed, Renewed, front_long, front_fits, front-count}
+use Rattle.outcome.proofs.Front.{front_size, renewed, Renewed, front_long, front_fits, front_count}
 use Rattle.outcome.proofs.Laws.{finish_ready}
 use Rattle.outcome.proofs.Runs.{fits_front}
-use Rattle.single_step.proofs.Run.{step_in_order, after_sky, Lent, lent-long, lent_fits, step_kept, run-fitted}
+use Rattle.single_step.proofs.Run.{step_in_order, after_sky, Lent, lent_long, lent_fits, step_kept, run-fitted}
 use Rattle.single_step.proofs.fit_run.Goals as goal
 use Rattle.single_step.proofs.fit_run.Goals.{After-changed, After-changes, After-free_residuals, After-on_the_sky-sky, After-solve-solved, Start}
 
@@ -96,7 +96,7 @@ pub slice_bounds-changed-end : goal.slice_bounds-changed-end
 slice_bounds-changed-end c = front_fits (wrote_change c.before.before)
 
 pub slice_bounds-changed-end-2 : goal.slice_bounds-changed-end-2
-slice_bounds-changed-end-2 c = sym (front-count (wrote_change c.before.before))
+slice_bounds-changed-end-2 c = sym (front_count (wrote_change c.before.before))
 
 pub slice_bounds-changed-end-3 : goal.slice_bounds-changed-end-3
 slice_bounds-changed-end-3 c = c.requires.3
@@ -105,13 +105,13 @@ pub slice_bounds-changed-end-4 : goal.slice_bounds-changed-end-4
 slice_bounds-changed-end-4 c = front_size _ _ c.requires.3
 
 pub changed-requires : goal.changed-requires
-changed-requires c = (front-count (wrote_change c.before.before.before), length-take-le (length c.args.coefficients.now) c.args.out.now c.requires.3)
+changed-requires c = (front_count (wrote_change c.before.before.before), length-take-le (length c.args.coefficients.now) c.args.out.now c.requires.3)
 
 pub slice_bounds-on_the_sky-end : goal.slice_bounds-on_the_sky-end
 slice_bounds-on_the_sky-end c = front_fits (wrote_set c.before.before)
 
 pub slice_bounds-on_the_sky-end-2 : goal.slice_bounds-on_the_sky-end-2
-slice_bounds-on_the_sky-end-2 c = sym (front-count (wrote_set c.before.before))
+slice_bounds-on_the_sky-end-2 c = sym (front_count (wrote_set c.before.before))
 
 pub overflow_mul-n : goal.overflow_mul-n
 overflow_mul-n c = omega (arith, few c.before.before)
@@ -124,7 +124,7 @@ slice_bounds-on_the_sky-end-4 c = front_size _ _ (sky_room c.before.before.befor
 
 pub on_the_sky-sky-requires : goal.on_the_sky-sky-requires
 on_the_sky-sky-requires c =
-    record { s_value = counted-as (run c.before.before.before.before.before.before.before.before.before.before.before.before.before.before.before.before.before.before.before.before.before.before.before.before.before.before.before.before) _ (front-count (wrote_set c.before.before.before)) c.requires.s_value; counted = length-take-le _ _ (sky_room c.before.before.before.before.before.before.before.before.before.before.before.before.before) }
+    record { s_value = counted_as (run c.before.before.before.before.before.before.before.before.before.before.before.before.before.before.before.before.before.before.before.before.before.before.before.before.before.before.before.before) _ (front_count (wrote_set c.before.before.before)) c.requires.s_value; counted = length-take-le _ _ (sky_room c.before.before.before.before.before.before.before.before.before.before.before.before.before) }
 
 pub overflow_mul-n-2 : goal.overflow_mul-n-2
 overflow_mul-n-2 c = omega (arith, few c.before.before.before.before.before.before.before)
@@ -163,7 +163,7 @@ pub shape_of-scratch : goal.shape_of-scratch
 shape_of-scratch c =
     let t : Renewed _ c.finish.new.1.1.1.1.1.1.1.1.1.1.0 _ =
     record { room = lent_fits (wrote_all c.before.before.before.before.before.before.before.before.before.before.before.before); kept = c.finish.auto.1.1.1.1.1.1.1.1.1.1.0 } in
-    front_long t ∙ lent-long (wrote_all c.before.before.before.before.before.before.before.before.before.before.before.before)
+    front_long t ∙ lent_long (wrote_all c.before.before.before.before.before.before.before.before.before.before.before.before)
 
 pub returns : goal.returns
 returns c =

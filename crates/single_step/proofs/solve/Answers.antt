@@ -9,8 +9,8 @@ use lib.Seq.{length-take-le}
 use Rattle.sequence.proofs.Only.{length_cut, back}
 use Rattle.design.proofs.Runs.{seen}
 use Rattle.outcome.proofs.Front.{front_size, Renewed}
-use Rattle.outcome.proofs.Runs.{columns-ready, columns-built}
-use Rattle.single_step.proofs.Laws.{back_fits, copied-long, fitted_to, solver_ready, stepped}
+use Rattle.outcome.proofs.Runs.{columns_ready, columns_built}
+use Rattle.single_step.proofs.Laws.{back_fits, copied_long, fitted_to, solver_ready, stepped}
 use Rattle.single_step.proofs.solve.Goals as goal
 use Rattle.single_step.proofs.solve.Goals.{After-build_sky_residuals, After-copy, After-subtract_all_contributions}
 
@@ -40,7 +40,7 @@ back_again c = record { room = lies c.before.before.before.before; kept = c.subt
 long : (c : After-copy) → length c.copy.new.0 ≡ length c.args.w.now
 long c =
     let n = length c.args.used.now in
-    copied-long c.args.w.now (made c.before.before.before.before.before.before.before.before) (2 * n) (4 * n) (omega arith) (omega (arith, c.requires.room))
+    copied_long c.args.w.now (made c.before.before.before.before.before.before.before.before) (2 * n) (4 * n) (omega arith) (omega (arith, c.requires.room))
     c.build_sky_residuals.kept.1.1.1.1.0 (back_again c.before.before.before.before) _ c.copy.ensures
 
 pub build_sky_residuals-requires : goal.build_sky_residuals-requires
@@ -60,7 +60,7 @@ pub copy-requires : goal.copy-requires
 copy-requires c = (omega arith, omega arith)
 
 pub build_design_matrix-requires : goal.build_design_matrix-requires
-build_design_matrix-requires c = columns-ready _ _ c.copy.new.0 c.requires (long c.before.before.before)
+build_design_matrix-requires c = columns_ready _ _ c.copy.new.0 c.requires (long c.before.before.before)
 
 pub solve_and_covariance-requires : goal.solve_and_covariance-requires
 solve_and_covariance-requires c =
@@ -76,6 +76,6 @@ returns c =
     let fit = fitted_to _ c.args.coefficients.now c.args.w.now (made c.before.before.before.before.before.before.before.before.before.before.before.before.before.before.before.before.before.before)
     (rest c.before.before.before.before.before.before.before.before.before.before.before.before.before.before) _ c.requires c.build_sky_residuals.kept.1.1.1.1.0
     c.build_sky_residuals.ensures (back_again c.before.before.before.before.before.before.before.before.before.before.before.before.before.before) c.subtract_all_contributions.ensures c.copy.ensures in
-    let built = columns-built _ _ c.copy.new.0 c.requires (long c.before.before.before.before.before.before.before.before.before.before) _ _ c.build_design_matrix.ensures in
+    let built = columns_built _ _ c.copy.new.0 c.requires (long c.before.before.before.before.before.before.before.before.before.before) _ _ c.build_design_matrix.ensures in
     stepped _ c.args.coefficients.now _ _ _ _ c.requires.counted fit built.0 built.1
     c.solve_and_covariance.ensures.solution c.solve_and_covariance.ensures.only

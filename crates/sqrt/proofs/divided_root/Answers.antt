@@ -1,6 +1,6 @@
 -- `sqrt::divided_root` meets its contract. Assumes nothing.
 use Rattle.std.proofs.Common.{ℕ, ◌-◌, ◌*◌, ◌/◌, ◌%◌, ◌^◌, arith}
-use Rattle.sqrt.proofs.Split.{Split, split, split-up, split-down}
+use Rattle.sqrt.proofs.Split.{Split, split, split_up, split_down}
 use Rattle.sqrt.proofs.divided_root.Goals as goal
 
 -- the locals d and u
@@ -44,10 +44,10 @@ pub returns-then-d-q : goal.returns-then-d-q
 returns-then-d-q c =
     let a = c.args.a in
     let s = c.whole_root-s.result in
-    split-up a s (d_of a s) (u_of a s) c.requires.0 c.requires.1 (parts c.before) c.if-d-q.true
+    split_up a s (d_of a s) (u_of a s) c.requires.0 c.requires.1 (parts c.before) c.if-d-q.true
 
 pub returns-else-d-q : goal.returns-else-d-q
 returns-else-d-q c =
     let a = c.args.a in
     let s = c.whole_root-s.result in
-    split-down a s (d_of a s) (u_of a s) c.requires.0 c.requires.1 (parts c.before) c.if-d-q.false
+    split_down a s (d_of a s) (u_of a s) c.requires.0 c.requires.1 (parts c.before) c.if-d-q.false

@@ -1,7 +1,7 @@
 use Prim.Native.Nat.{◌<◌}
 use mathlib.Core.Path.{refl}
 use lib.ListN.{length, length-set}
-use Rattle.sequence.proofs.Fills.{each_none, each_next, each-end}
+use Rattle.sequence.proofs.Fills.{each_none, each_next, each_end}
 use Rattle.design.specs.Design.{scattered}
 use native.Mathlib.Omega.{arith}
 use Rattle.stats.proofs.compute_sigma.Invariants.{turn}
@@ -39,4 +39,4 @@ unfolding scattered
 returns c =
     let u = c.loop-i in
     let a = c.args in
-    each-end u.i (length a.free.now) (turn a.free.now a.s2 a.cov_diag.now) a.sigma.now u.sigma (omega arith) (omega arith) u.invariant.3
+    each_end u.i (length a.free.now) (turn a.free.now a.s2 a.cov_diag.now) a.sigma.now u.sigma (omega arith) (omega arith) u.invariant.3

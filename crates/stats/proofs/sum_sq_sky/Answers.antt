@@ -7,7 +7,7 @@ use Rattle.float.specs.Float.{◌⊕◌, ◌⊗◌}
 use Rattle.sequence.specs.Sequence.{at}
 use Rattle.sequence.proofs.Sums.{sum_none, added, sum_end}
 use Rattle.design.specs.Design.{sheet_at, sights_at, cos_dec, sky_rows}
-use Rattle.design.proofs.Stars.{sky-hour, sky-dec, stars-count}
+use Rattle.design.proofs.Stars.{sky_hour, sky_dec, stars_count}
 use Rattle.stats.specs.Stats.{sky_square, sum_sq_sky}
 use native.Mathlib.Omega.{arith}
 use Rattle.stats.proofs.sum_sq_sky.Goals as goal
@@ -19,7 +19,7 @@ module _ (sheets : List Float) (used : List ℕ) (r : List Float) where
 
   term-at : (i : ℕ) (c : Float) → length r ≡ 2 * length used → i < length used → c ≡ cos_dec (sheet_at sheets (get_or used i 0))
       → (at r (2 * i) ⊗ c) ⊗ (at r (2 * i) ⊗ c) ⊕ at r (2 * i + 1) ⊗ at r (2 * i + 1) ≡ term i
-  term-at i c h g e = rw (e, sky-hour [] [] [] sheets used r i h g, sky-dec [] [] [] sheets used r i h g) refl
+  term-at i c h g e = rw (e, sky_hour [] [] [] sheets used r i h g, sky_dec [] [] [] sheets used r i h g) refl
 
 pub loop-i-init : goal.loop-i-init
 loop-i-init c = (refl, omega arith, sum_none _)
@@ -42,5 +42,5 @@ returns c =
     let u = c.loop-i in
     let a = c.args in
     let t = term a.sheets.now a.used.now a.r.now in
-    rw (stars-count [] [] [] a.sheets.now a.used.now)
+    rw (stars_count [] [] [] a.sheets.now a.used.now)
     (sum_end t u.i (length a.used.now) u.sum (omega arith) (omega arith) u.invariant.2)

@@ -2,7 +2,7 @@ use native.Mathlib.Nat.{add-sub_cancel_left}
 use mathlib.Core.Path.{◌≡◌, ap}
 use Rattle.terms.specs.declared.Reading.{Reading}
 use Rattle.terms.specs.Slots.{slot}
-use Rattle.terms.proofs.First.{first-none, first_step, first-stop, first-end}
+use Rattle.terms.proofs.First.{first_none, first_step, first_stop, first_end}
 use native.Mathlib.Omega.{arith}
 use Rattle.terms.proofs.names_refusal.Invariants.{numbers}
 use Rattle.terms.proofs.names_refusal.Goals as goal
@@ -13,12 +13,12 @@ here : (c : After-read_term-r) → c.read_term-r.result.refusal ≡ numbers c.ar
 here c = ap (λ (r : Reading). r.refusal) (rw add-sub_cancel_left at c.read_term-r.ensures)
 
 pub loop-i-init : goal.loop-i-init
-loop-i-init c = (omega arith, first-none _)
+loop-i-init c = (omega arith, first_none _)
 
 pub returns-then-r-ne0 : goal.returns-then-r-ne0
 returns-then-r-ne0 c =
     let l = c.loop-i in
-    first-stop _ l.i _ _ (omega arith) l.invariant.1 (here c.before.before) c.if-r-ne0.true
+    first_stop _ l.i _ _ (omega arith) l.invariant.1 (here c.before.before) c.if-r-ne0.true
 
 pub loop-i-preserved : goal.loop-i-preserved
 loop-i-preserved c =
@@ -28,4 +28,4 @@ loop-i-preserved c =
 pub returns : goal.returns
 returns c =
     let l = c.loop-i in
-    first-end _ l.i _ (omega arith) (omega arith) l.invariant.1
+    first_end _ l.i _ (omega arith) (omega arith) l.invariant.1

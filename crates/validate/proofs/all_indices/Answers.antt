@@ -2,7 +2,7 @@ use mathlib.Core.Path.{refl}
 use lib.ListN.{length-set}
 use native.Mathlib.Omega.{arith}
 use Rattle.sequence.specs.Sequence.{filled}
-use Rattle.sequence.proofs.Fills.{filled_none, filled-end, stored}
+use Rattle.sequence.proofs.Fills.{filled_none, filled_end, stored}
 use Rattle.validate.proofs.all_indices.Goals as goal
 
 pub loop-i-init : goal.loop-i-init
@@ -18,4 +18,4 @@ unfolding filled
 returns c =
     let u = c.loop-i in
     let a = c.args in
-    filled-end (λ i. i) u.i a.n a.out.now u.out (omega arith) (omega arith) u.invariant.2
+    filled_end (λ i. i) u.i a.n a.out.now u.out (omega arith) (omega arith) u.invariant.2

@@ -1,6 +1,6 @@
 use mathlib.Core.Path.{refl}
 use borrow.Author.Tests.{lt-ltb, le-ltb}
-use Rattle.sequence.proofs.Tests.{every-step, every-stop, every-end}
+use Rattle.sequence.proofs.Tests.{every-step, every_stop, every_end}
 use native.Mathlib.Omega.{arith}
 use Rattle.validate.proofs.codes_below.Goals as goal
 
@@ -8,7 +8,7 @@ pub loop-i-init : goal.loop-i-init
 loop-i-init c = (refl, omega arith, refl)
 
 pub returns-then-s-i : goal.returns-then-s-i
-returns-then-s-i c = let u = c.loop-i in every-stop _ _ u.i 0 (omega arith) (le-ltb _ _ c.if-s-i.true) u.invariant.2
+returns-then-s-i c = let u = c.loop-i in every_stop _ _ u.i 0 (omega arith) (le-ltb _ _ c.if-s-i.true) u.invariant.2
 
 pub loop-i-preserved : goal.loop-i-preserved
 loop-i-preserved c =
@@ -16,4 +16,4 @@ loop-i-preserved c =
     (u.invariant.0, omega arith, every-step _ _ u.i 0 (omega arith) (lt-ltb _ _ c.if-s-i.false) u.invariant.2)
 
 pub returns : goal.returns
-returns c = let u = c.loop-i in every-end _ _ u.i (omega arith) u.invariant.2
+returns c = let u = c.loop-i in every_end _ _ u.i (omega arith) u.invariant.2

@@ -1,7 +1,7 @@
 -- `validate::numbers_refusal` meets its contract. Assumes nothing.
 use Rattle.sequence.proofs.Tests.{was_yes, was_no}
 use Rattle.solver.specs.Call.{FitInputs, inputs}
-use Rattle.validate.proofs.InOrder.{no_size, sizes-pass}
+use Rattle.validate.proofs.InOrder.{no_size, sizes_pass}
 use Rattle.validate.proofs.numbers_refusal.Goals as goal
 use Rattle.validate.proofs.numbers_refusal.Goals.{Start}
 
@@ -16,15 +16,15 @@ returns-then-no_size-ne0 c =
 
 pub returns-then-not-finite_input : goal.returns-then-not-finite_input
 returns-then-not-finite_input c =
-    sizes-pass (call c.before.before.before.before.before.before.before.before.before.before.before) c.args.options c.args.room _ c.sizes_refusal-no_size.ensures c.if-no_size-ne0.false 4
+    sizes_pass (call c.before.before.before.before.before.before.before.before.before.before.before) c.args.options c.args.room _ c.sizes_refusal-no_size.ensures c.if-no_size-ne0.false 4
     (rw (was_no c.finite_input.ensures c.if-not-finite_input.true-raw))
 
 pub returns-then-not-finite_options : goal.returns-then-not-finite_options
 returns-then-not-finite_options c =
-    sizes-pass (call c.before.before.before.before.before.before.before.before.before.before.before.before.before) c.args.options c.args.room _ c.sizes_refusal-no_size.ensures c.if-no_size-ne0.false 4
+    sizes_pass (call c.before.before.before.before.before.before.before.before.before.before.before.before.before) c.args.options c.args.room _ c.sizes_refusal-no_size.ensures c.if-no_size-ne0.false 4
     (rw (was_yes c.finite_input.ensures c.if-not-finite_input.false-raw, was_no c.finite_options.ensures c.if-not-finite_options.true-raw))
 
 pub returns : goal.returns
 returns c =
-    sizes-pass (call c.before.before.before.before.before.before.before.before.before.before.before.before.before) c.args.options c.args.room _ c.sizes_refusal-no_size.ensures c.if-no_size-ne0.false 0
+    sizes_pass (call c.before.before.before.before.before.before.before.before.before.before.before.before.before) c.args.options c.args.room _ c.sizes_refusal-no_size.ensures c.if-no_size-ne0.false 0
     (rw (was_yes c.finite_input.ensures c.if-not-finite_input.false-raw, was_yes c.finite_options.ensures c.if-not-finite_options.false-raw))

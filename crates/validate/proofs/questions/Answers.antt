@@ -2,7 +2,7 @@
 use native.Mathlib.Omega.{arith}
 use mathlib.Core.Path.{sym, ◌∙◌}
 use Rattle.solver.specs.Call.{FitInputs, inputs}
-use Rattle.validate.proofs.InOrder.{sized, no_number, no_code, no-term, passes}
+use Rattle.validate.proofs.InOrder.{sized, no_number, no_code, no_term, passes}
 use Rattle.validate.proofs.questions.Goals as goal
 use Rattle.validate.proofs.questions.Goals.{Start}
 
@@ -24,7 +24,7 @@ terms_refusal-no_term-requires c =
 
 pub returns-then-no_term-ne0 : goal.returns-then-no_term-ne0
 returns-then-no_term-ne0 c =
-    no-term _ _ _ _ c.numbers_refusal-no_number.ensures c.if-no_number-ne0.false _ c.codes_refusal-no_code.ensures c.if-no_code-ne0.false _
+    no_term _ _ _ _ c.numbers_refusal-no_number.ensures c.if-no_number-ne0.false _ c.codes_refusal-no_code.ensures c.if-no_code-ne0.false _
     c.terms_refusal-no_term.ensures c.if-no_term-ne0.true
 
 pub returns : goal.returns

@@ -7,7 +7,7 @@ use lib.ListN.{length}
 use Rattle.model.specs.Model.{add_term}
 use Rattle.terms.specs.declared.Reading.{Reading}
 use Rattle.model.proofs.Laws.{passed}
-use Rattle.model.proofs.Stored.{read-stored}
+use Rattle.model.proofs.Stored.{read_stored}
 use borrow.Author.Rules.{rules}
 use Rattle.model.proofs.PointingModel.add_term.Goals as goal
 
@@ -25,7 +25,7 @@ has_name-requires c =
     let few : m.count ≤ 32 = (passed _ _ _ _ _ _ (sym c.refusal-no.ensures ∙ c.if-no-ne0.false)).few in
     let names : length m.names ≡ 512 = search rules in
     let yes = ap (λ (r : Reading). r.refusal) (sym c.read_term-reading.ensures) ∙ c.if-reading-ne0.false in
-    (omega arith, ap (λ (r : Reading). length r.term.name) c.read_term-reading.ensures ∙ (read-stored _ yes).sixteen)
+    (omega arith, ap (λ (r : Reading). length r.term.name) c.read_term-reading.ensures ∙ (read_stored _ yes).sixteen)
 
 pub flagged-requires : goal.flagged-requires
 flagged-requires c = (passed _ _ _ _ _ _ (sym c.refusal-no.ensures ∙ c.if-no-ne0.false)).few

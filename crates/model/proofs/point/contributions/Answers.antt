@@ -1,5 +1,5 @@
 use mathlib.Core.Path.{◌∙◌, ap}
-use Rattle.sequence.proofs.Fills.{filled_none, stored, filled-end}
+use Rattle.sequence.proofs.Fills.{filled_none, stored, filled_end}
 use Rattle.observation.specs.declared.Pair.{Pair}
 use Rattle.terms.specs.declared.Reading.{Reading}
 use Rattle.model.specs.Slots.{no_numbers, no_flags, pier_at}
@@ -10,8 +10,7 @@ use native.Mathlib.Omega.{arith}
 use Rattle.model.proofs.point.contributions.Goals as goal
 
 pub loop-i-init : goal.loop-i-init
-loop-i-init c =
-    (
+loop-i-init c = (
   omega arith,
   c.no_numbers-dh.ensures ∙ filled_none _ no_numbers,
   c.no_numbers-dd.ensures ∙ filled_none _ no_numbers,
@@ -38,6 +37,6 @@ returns c =
     let a = c.args in
     let l = c.loop-i in
     let f = contribution a.names.now a.coefficients.now a.sheet.now a.sin_lat a.cos_lat a.pier in
-    λ i. given 0 (filled-end (λ k. (f k).dh) l.i a.count no_numbers l.dh (omega arith) (omega arith) l.invariant.1 i)
-    (filled-end (λ k. (f k).dd) l.i a.count no_numbers l.dd (omega arith) (omega arith) l.invariant.2 i)
-    (filled-end (pier_at a.names.now) l.i a.count no_flags l.flags (omega arith) (omega arith) l.invariant.3 i)
+    λ i. given 0 (filled_end (λ k. (f k).dh) l.i a.count no_numbers l.dh (omega arith) (omega arith) l.invariant.1 i)
+    (filled_end (λ k. (f k).dd) l.i a.count no_numbers l.dd (omega arith) (omega arith) l.invariant.2 i)
+    (filled_end (pier_at a.names.now) l.i a.count no_flags l.flags (omega arith) (omega arith) l.invariant.3 i)

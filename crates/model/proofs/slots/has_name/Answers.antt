@@ -4,7 +4,7 @@ use mathlib.Core.Path.{◌≡◌, sym, ◌∙◌, ap}
 use mathlib.Core.Bool.{false}
 use borrow.Author.Rules.{rules}
 use lib.ListN.{length}
-use Rattle.sequence.proofs.Tests.{some-none, some-step, some-stop, some_end}
+use Rattle.sequence.proofs.Tests.{some_none, some-step, some_stop, some_end}
 use Rattle.terms.specs.Names.{same}
 use Rattle.terms.specs.declared.Reading.{Reading}
 use Rattle.terms.specs.Slots.{slot}
@@ -22,7 +22,7 @@ here c =
     (rw add-sub_cancel_left at c.read_term-reading.ensures)
 
 pub loop-i-init : goal.loop-i-init
-loop-i-init c = (omega arith, some-none _)
+loop-i-init c = (omega arith, some_none _)
 
 pub same_bytes-requires : goal.same_bytes-requires
 same_bytes-requires c =
@@ -32,7 +32,7 @@ same_bytes-requires c =
 pub returns-then-same_bytes : goal.returns-then-same_bytes
 returns-then-same_bytes c =
     let l = c.loop-i in
-    some-stop _ l.i _ (omega arith) (sym (here c.before) ∙ c.if-same_bytes.true)
+    some_stop _ l.i _ (omega arith) (sym (here c.before) ∙ c.if-same_bytes.true)
 
 pub loop-i-preserved : goal.loop-i-preserved
 loop-i-preserved c =

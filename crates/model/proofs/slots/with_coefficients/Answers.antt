@@ -1,5 +1,5 @@
 use mathlib.Core.Path.{refl}
-use Rattle.sequence.proofs.Fills.{filled_none, stored, filled-end}
+use Rattle.sequence.proofs.Fills.{filled_none, stored, filled_end}
 use borrow.Author.Rules.{rules}
 use native.Mathlib.Omega.{arith}
 use Rattle.model.proofs.slots.with_coefficients.Goals as goal
@@ -15,4 +15,4 @@ loop-i-preserved c =
 pub returns : goal.returns
 returns c =
     let l = c.loop-i in
-    filled-end _ l.i _ _ _ (omega arith) (omega arith) l.invariant.3
+    filled_end _ l.i _ _ _ (omega arith) (omega arith) l.invariant.3

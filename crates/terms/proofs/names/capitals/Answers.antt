@@ -1,11 +1,11 @@
 use native.Mathlib.Omega.{arith}
 use mathlib.Core.Path.{refl}
-use Rattle.sequence.proofs.Partway.{map-start, map_next, end}
+use Rattle.sequence.proofs.Partway.{map_start, map_next, end}
 use Rattle.terms.specs.Names.{capital}
 use Rattle.terms.proofs.names.capitals.Goals as goal
 
 pub loop-i-init : goal.loop-i-init
-loop-i-init c = (omega arith, refl, map-start capital c.args.slot.now _ c.requires)
+loop-i-init c = (omega arith, refl, map_start capital c.args.slot.now _ c.requires)
 
 pub loop-i-preserved : goal.loop-i-preserved
 loop-i-preserved c =
