@@ -15,25 +15,23 @@ pub returns-in_default : goal.returns-in_default
 returns-in_default c =
     let s = c.args.chars.now in
     let l = c.loop-i in
-    let ill = broken s c.requires l.list l.count l.i l.invariant c.loop-i-test.true (sym c.component_at.ensures ∙ c.enum_told-1.given.1) in
+    let ill = broken s c.requires l.list l.count l.i l.invariant c.loop-i-test.true (sym c.component_at.ensures ∙ c.in_default.is) in
     ap (λ (cs : Components). record { ok = false; components = cs }) c.no_components-none.ensures ∙ sym (ap read_of ill)
 
 pub loop-i-smaller : goal.loop-i-smaller
 loop-i-smaller c =
     let s = c.args.chars.now in
     let l = c.loop-i in
-    let g = c.c-1.given in
-    let f = further s c.requires l.list l.count l.i l.invariant c.loop-i-test.true g.0.0 g.0.1.0
-    (sym c.component_at.ensures ∙ g.1) in
+    let m = c.in-Component in
+    let f = further s c.requires l.list l.count l.i l.invariant c.loop-i-test.true m.c m.next (sym c.component_at.ensures ∙ m.is) in
     omega (arith, f.0, f.1)
 
 pub loop-i-preserved : goal.loop-i-preserved
 loop-i-preserved c =
     let s = c.args.chars.now in
     let l = c.loop-i in
-    let g = c.c-1.given in
-    next s c.requires l.list l.count l.i l.invariant c.loop-i-test.true g.0.0 g.0.1.0
-    (sym c.component_at.ensures ∙ g.1)
+    let m = c.in-Component in
+    next s c.requires l.list l.count l.i l.invariant c.loop-i-test.true m.c m.next (sym c.component_at.ensures ∙ m.is)
 
 pub returns : goal.returns
 returns c =

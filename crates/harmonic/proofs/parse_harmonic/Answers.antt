@@ -12,16 +12,16 @@ returns-then-name-ne72 c = c.malformed-then-name-ne72.ensures ∙ no_prefix c.ar
 
 pub returns-in_default : goal.returns-in_default
 returns-in_default c =
-    c.malformed-in_default.ensures ∙ no_result c.args.name.now c.if-name-lt4.false c.if-name-ne72.false (sym c.parse_result_type.ensures ∙ c.enum_told-1.given.1)
+    c.malformed-in_default.ensures ∙ no_result c.args.name.now c.if-name-lt4.false c.if-name-ne72.false (sym c.parse_result_type.ensures ∙ c.in_default.is)
 
 pub returns-then-not-read : goal.returns-then-not-read
 returns-then-not-read c =
     c.malformed-then-not-read.ensures
-    ∙ no_components c.args.name.now c.if-name-lt4.false c.if-name-ne72.false c.result-1.given.0.0
-    (sym c.parse_result_type.ensures ∙ c.result-1.given.1)
+    ∙ no_components c.args.name.now c.if-name-lt4.false c.if-name-ne72.false c.in-Result.result
+    (sym c.parse_result_type.ensures ∙ c.in-Result.is)
     c.parse_components-read.result c.parse_components-read.ensures (not-true _ c.if-not-read.true)
 
 pub returns : goal.returns
 returns c =
-    all_read c.args.name.now c.if-name-lt4.false c.if-name-ne72.false c.result-1.given.0.0 (sym c.parse_result_type.ensures ∙ c.result-1.given.1)
+    all_read c.args.name.now c.if-name-lt4.false c.if-name-ne72.false c.in-Result.result (sym c.parse_result_type.ensures ∙ c.in-Result.is)
     c.parse_components-read.result c.parse_components-read.ensures (not-false _ c.if-not-read.false)
