@@ -1,4 +1,5 @@
 // The Jacobians of the equatorial terms, from what is known of one observation. After terms/equatorial.rs.
+#![tactic(auto)]
 
 ghost use Rattle.std.specs.Prelude.{◌≡◌, ◌-◌};
 ghost use Rattle.observation.specs.Observation.{pair_of};
