@@ -2,6 +2,7 @@
 // and V below it lie in one lent slice w, column after column: of the h numbers of a column the first
 // `rows` are A's (data rows, and damping rows below them where there are any) and the next m are V's,
 // so that one turn turns A and V.
+#![tactic(auto)]
 
 ghost use Rattle.std.specs.Prelude.{◌≡◌, Bool, true, ◌+◌, ◌*◌, ◌≤◌, ◌<◌, length};
 ghost use Rattle.jacobi.specs.Jacobi.{products, turns as turns_of, zeta_of, tan_of, cos_of, turn as turn_of, pair as pair_of, factorised};
@@ -167,7 +168,7 @@ fn turn_pair(
 ) -> Products
     requires { (p < q) × (q < m) × (rows + m ≤ h) × (m * h ≤ length w.old) × (a ≡ products rows (p * h) (q * h) w.old)
         × (turns_of a.alpha a.beta a.gamma ≡ true) }
-    ensures turned { (b : Bool) → record { w = w.exit.now; turned = true } ≡ pair_of h rows m p q (record { w = w.entry.now; turned = b }) }
+    ensures turned { (b : Bool) → record { w = w.new; turned = true } ≡ pair_of h rows m p q (record { w = w.old; turned = b }) }
     ensures next { q + 1 < m → result ≡ products rows (p * h) ((q + 1) * h) w.new }
 {
     let t = tangent(a.alpha, a.beta, a.gamma);
@@ -186,7 +187,7 @@ fn turn_pair(
 // Sweeps until one in which no pair turns, at most 30.
 pub fn factorise(w: &mut [f64], h: usize, rows: usize, m: usize) -> Sweeps
     requires { (rows + m ≤ h) × (m * h ≤ length w.old) }
-    ensures { record { w = w.exit.now; made = result.made; settled = result.settled } ≡ factorised h rows m w.entry.now }
+    ensures { record { w = w.new; made = result.made; settled = result.settled } ≡ factorised h rows m w.old }
 {
     let mut made = 0usize;
     let mut settled = false;

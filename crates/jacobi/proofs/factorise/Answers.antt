@@ -1,11 +1,9 @@
 use mathlib.Core.Path.{refl, sym, ◌∙◌}
-use mathlib.Core.Logic.{⊎_elim}
-use borrow.Author.Tests.{not-true, not-false}
 use native.Mathlib.Omega.{arith}
 use Rattle.sequence.proofs.Fills.{each-zero, each_step}
-use Rattle.jacobi.specs.Jacobi.{sweeps}
 use Rattle.jacobi.proofs.Laws.{pair-still, row_done, sweep_done, sweeps_on, sweeps-still, sweeps_none}
 use Rattle.jacobi.proofs.factorise.Goals as goal
+use Rattle.jacobi.proofs.factorise.Goals.{then-turns, else-turns}
 
 pub sweeps-init : goal.sweeps-init
 sweeps-init c = (omega arith, refl, refl, refl)
@@ -25,15 +23,20 @@ pub loop-q-preserved : goal.loop-q-preserved
 loop-q-preserved c =
     let u = c.loop-q in
     let own = u.invariant.3 (omega arith) in
-    ⊎_elim
-    (λ d.
-    let turned = d.2.ensures.0 in
-    let next = d.2.ensures.1 in
-    rw (d.5, d.6, d.7) (omega arith, omega arith, omega arith, next, turned _ ∙ each_step _ _ _ _ _ (omega arith) u.invariant.4))
-    (λ d.
-    let still = pair-still _ _ _ _ _ _ _ own (sym c.turns.ensures ∙ d.0.left) _ in
-    rw (d.3, d.4, d.5) (omega arith, omega arith, omega arith, d.2.ensures, still ∙ each_step _ _ _ _ _ (omega arith) u.invariant.4))
-    c.if-turns.branch
+    elim c.if-turns.branch [
+      | then-turns d ↦
+          let turned = d.turn_pair-a.ensures.turned in
+          let next = d.turn_pair-a.ensures.next in
+          rw (d.w-is, d.turned-is, d.a-is) (omega arith, omega arith, omega arith, next, turned _ ∙ each_step _ _ _ _ _ (omega arith) u.invariant.4)
+      | else-turns d ↦
+          rw (d.w-is, d.turned-is, d.a-is) (
+            omega arith,
+            omega arith,
+            omega arith,
+            d.pair_sums-a-else-turns.ensures,
+            pair-still _ _ _ _ _ _ _ own (sym c.turns.ensures ∙ d.if-turns.false) _ ∙ each_step _ _ _ _ _ (omega arith) u.invariant.4,
+          )
+    ]
 
 pub loop-p-preserved : goal.loop-p-preserved
 loop-p-preserved c =
@@ -45,7 +48,7 @@ pub sweeps-preserved : goal.sweeps-preserved
 sweeps-preserved c =
     let u = c.loop-p in
     let w = c.sweeps in
-    let done = sweep_done _ _ _ _ _ _ _ _ (omega arith) (not-false _ c.if-not-turned.false-raw) u.invariant.2 in
+    let done = sweep_done _ _ _ _ _ _ _ _ (omega arith) c.if-not-turned.false u.invariant.2 in
     (omega arith, omega arith, w.invariant.2, sweeps_on _ _ _ _ _ _ _ (omega arith) done w.invariant.3)
 
 pub returns-after-sweeps : goal.returns-after-sweeps
@@ -57,5 +60,5 @@ pub returns-then-not-turned : goal.returns-then-not-turned
 returns-then-not-turned c =
     let u = c.loop-p in
     let w = c.sweeps in
-    let done = sweep_done _ _ _ _ _ _ _ _ (omega arith) (not-true _ c.if-not-turned.true-raw) u.invariant.2 in
+    let done = sweep_done _ _ _ _ _ _ _ _ (omega arith) c.if-not-turned.true u.invariant.2 in
     sweeps-still _ _ _ _ _ _ _ (omega arith) done w.invariant.3

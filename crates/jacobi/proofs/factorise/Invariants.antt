@@ -10,10 +10,10 @@ use Rattle.jacobi.proofs.factorise.Given as goal
 
 abbrev pub invariant-loop-q : goal.invariant-loop-q
 invariant-loop-q l = (l.initial.q ≤ l.q) × (l.q ≤ l.m) × (length l.w ≡ length l.initial.w) × (l.q < l.m → l.a ≡ products l.rows (l.p * l.h) (l.q * l.h) l.w)
-    × (record { l.w = l.w; l.turned = l.turned } ≡ each (l.q - l.initial.q) l.initial.q (pair l.h l.rows l.m l.p) (record { l.w = l.initial.w; l.turned = l.initial.turned }))
+    × (record { w = l.w; turned = l.turned } ≡ each (l.q - l.initial.q) l.initial.q (pair l.h l.rows l.m l.p) (record { w = l.initial.w; turned = l.initial.turned }))
 
 abbrev pub invariant-loop-p : goal.invariant-loop-p
-invariant-loop-p l = (l.p ≤ l.m) × (length l.w ≡ length l.initial.w) × (record { l.w = l.w; l.turned = l.turned } ≡ each (l.p - l.initial.p) l.initial.p (row l.h l.rows l.m) (record { l.w = l.initial.w; l.turned = l.initial.turned }))
+invariant-loop-p l = (l.p ≤ l.m) × (length l.w ≡ length l.initial.w) × (record { w = l.w; turned = l.turned } ≡ each (l.p - l.initial.p) l.initial.p (row l.h l.rows l.m) (record { w = l.initial.w; turned = l.initial.turned }))
 
 abbrev pub invariant-sweeps : goal.invariant-sweeps
 invariant-sweeps l = (l.made ≤ 30) × (length l.w ≡ length l.initial.w) × (l.settled ≡ false) × (sweeps l.h l.rows l.m (30 - l.made) l.made l.w ≡ factorised l.h l.rows l.m l.initial.w)

@@ -5,8 +5,6 @@ use lib.ListN.{length, length-set}
 use Rattle.sequence.proofs.Sums.{dot_part_none, dot_part_two, dot_part_last}
 use Rattle.jacobi.specs.Jacobi.{turn}
 use Rattle.jacobi.proofs.Laws.{turn-zero, turn-length, turn_step, turn_two, end_x, end_z, products_are}
-use Rattle.jacobi.proofs.turn_on.Reads as reads
-use Rattle.jacobi.proofs.turn_on.Lts as lts
 use Rattle.jacobi.proofs.turn_on.Goals as goal
 
 pub loop-half-init : goal.loop-half-init
@@ -84,7 +82,10 @@ returns c =
     let now = rw eh at u.invariant.2 in
     let x₀ = end_x _ _ a.n k a.x a.y a.z l u.w now (omega arith) (omega arith) (omega arith) k (omega arith) (omega arith) in
     let z₀ = end_z _ _ a.n k a.x a.y a.z l u.w now (omega arith) (omega arith) (omega arith) k (omega arith) (omega arith) in
-    let done = turn_step _ _ k a.x a.y l u.w now (omega arith) (omega arith) ∙ ap (λ (j : ℕ). turn a.c a.s j a.x a.y l) (sym en) in record { turned = done; sums = (products_are a.n a.x a.z T _ _ _ _ done
+    let done = turn_step _ _ k a.x a.y l u.w now (omega arith) (omega arith) ∙ ap (λ (j : ℕ). turn a.c a.s j a.x a.y l) (sym en) in record {
+      turned = done;
+      sums = products_are a.n a.x a.z T _ _ _ _ done
           (dot_part_last T a.x a.x k a.n _ _ _ en (rw eh at u.invariant.4) (omega arith) (omega arith) x₀ x₀)
           (dot_part_last T a.z a.z k a.n _ _ _ en (rw eh at u.invariant.5) (omega arith) (omega arith) z₀ z₀)
-          (dot_part_last T a.x a.z k a.n _ _ _ en (rw eh at u.invariant.6) (omega arith) (omega arith) x₀ z₀), ) }
+          (dot_part_last T a.x a.z k a.n _ _ _ en (rw eh at u.invariant.6) (omega arith) (omega arith) x₀ z₀);
+    }

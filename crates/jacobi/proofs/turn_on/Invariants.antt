@@ -5,8 +5,6 @@ use Prim.Native.Nat.{◌-◌, ◌*◌, ◌/◌, ◌≤◌}
 use lib.ListN.{length}
 use Rattle.sequence.specs.Sequence.{part, dot}
 use Rattle.jacobi.specs.Jacobi.{turn}
-use Rattle.jacobi.proofs.turn_on.Reads as reads
-use Rattle.jacobi.proofs.turn_on.Lts as lts
 use Rattle.jacobi.proofs.turn_on.Given as goal
 
 abbrev pub invariant-loop-half : goal.invariant-loop-half
