@@ -1,5 +1,6 @@
 // The design's columns and the residuals, from the lent slices: star by star over `used`, the indices of the stars that count, and term by
 // term. A vector has two numbers a star. After solver/design.rs.
+#![tactic(auto)]
 
 ghost use Rattle.std.specs.Prelude.{◌≡◌, ◌+◌, ◌-◌, ◌*◌, ◌<◌, ◌≤◌, length};
 ghost use mathlib.Core.List.{List, [], zip_with};

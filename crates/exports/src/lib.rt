@@ -1,5 +1,6 @@
 // The C interface of the library: a slice is a pointer and a count, a struct is the C struct of its fields. No call asks anything of
 // its caller.
+#![tactic(auto)]
 
 ghost use Rattle.std.specs.Prelude.{◌≡◌, length};
 ghost use Rattle.std.specs.Float.{binary64};

@@ -1,4 +1,5 @@
 // The file program: a file on standard input, its listing on standard output (docs/SCOPE.md 11).
+#![tactic(auto)]
 
 use listing::LISTING;
 use pmf::FILE_ROOM;

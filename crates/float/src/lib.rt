@@ -1,4 +1,5 @@
 // Functions of one `f64`, after those of the same names in Rust.
+#![tactic(auto)]
 
 ghost use Rattle.std.specs.Prelude.{◌≡◌};
 ghost use Rattle.std.specs.Float.{binary64};

@@ -1,5 +1,6 @@
 // The iterated fit: a loop of damped trials and one undamped trial at its end. Of all the sets that it tries it returns the best, as
 // specs/Demand3.antt says. It works in the scratch that outcome describes. After solver/iterated.rs.
+#![tactic(auto)]
 
 ghost use Rattle.std.specs.Prelude.{◌≡◌, ◌+◌, ◌*◌, ◌≤◌, length};
 ghost use mathlib.Core.List.{zip_with};

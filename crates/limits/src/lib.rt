@@ -1,4 +1,5 @@
 // The sizes that the library is made for, and those of what is lent to it.
+#![tactic(auto)]
 
 // Terms and stars of a fit, at most.
 pub const MAX_TERMS: usize = 32;

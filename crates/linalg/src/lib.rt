@@ -1,6 +1,7 @@
 // `solve_damped` and `solve_and_covariance` of linalg.rs: columns scaled, decomposed by one-sided
 // Jacobi, small singular values left out. A matrix lies in a lent slice w, column after column, h
 // numbers each: its rows, the m of V below them, and whatever else the column has room for.
+#![tactic(auto)]
 
 ghost use Rattle.std.specs.Prelude.{◌≡◌, ◌+◌, ◌*◌, ◌≤◌, ◌<◌, length, take};
 ghost use Rattle.limits.specs.Limits.{max_terms};

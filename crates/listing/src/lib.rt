@@ -1,5 +1,6 @@
 // The lines that the file program prints, written one after the other into a lent buffer. Each function takes the place where it
 // writes and hands back the place behind what it wrote.
+#![tactic(auto)]
 
 ghost use Rattle.std.specs.Prelude.{◌≡◌, [], ◌∷◌, ◌+◌, ◌*◌, ◌≤◌, ◌<◌, length};
 ghost use Rattle.limits.specs.Limits.{slot_bytes};

@@ -1,5 +1,6 @@
 // The system that a trial of the iterated fit solves, the set that its step leads to, and the length of the step. A set lies in a slice; the
 // scratch is the one that outcome describes. After the functions below the loop in solver/iterated.rs.
+#![tactic(auto)]
 
 ghost use Rattle.std.specs.Prelude.{◌≡◌, [], ◌+◌, ◌*◌, ◌≤◌, length, take};
 ghost use Rattle.limits.specs.Limits.{max_terms, max_stars, sheet_numbers};

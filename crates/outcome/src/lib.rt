@@ -1,5 +1,6 @@
 // What both fits do after their last solve: the free terms' residuals, sigma, the diagnostics and the answer. specs/Scratch.antt says how a run
 // lies in scratch. After solver/stats.rs and the ends of solver/single_step.rs and solver/iterated.rs.
+#![tactic(auto)]
 
 ghost use Rattle.std.specs.Prelude.{◌≡◌, ◌+◌, ◌*◌, ◌≤◌, length, take, drop, replicate};
 ghost use mathlib.Core.List.{List, ◌++◌, zip_with};

@@ -1,4 +1,5 @@
 // The file program as a library call: from the bytes of a file to its listing. After docs/SCOPE.md, section 11.
+#![tactic(auto)]
 
 ghost use Rattle.std.specs.Prelude.{◌≡◌, ◌+◌, ◌*◌, ◌≤◌, ◌<◌, length, replicate};
 ghost use Rattle.float.specs.Float.{#0};

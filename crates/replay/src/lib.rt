@@ -1,4 +1,5 @@
 // What the programs that replay the oracle's answers share: records from standard input, and lines of counts.
+#![tactic(auto)]
 
 ghost use Rattle.std.specs.Prelude.{◌≤◌};
 

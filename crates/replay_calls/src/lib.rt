@@ -1,5 +1,6 @@
 // Replays the oracle's fits. Standard input holds a pool of sheets and then calls, each with what the Rust made of it (oracle/README.md
 // has the format); whole answers, the buffers' tails, refused buffers and the cleared scratch are held against it.
+#![tactic(auto)]
 
 ghost use Rattle.std.specs.Prelude.{◌≡◌, ◌+◌, ◌*◌, ◌<◌, ◌≤◌, length};
 ghost use Rattle.replay_calls.specs.Room.{Lent, InRoom};

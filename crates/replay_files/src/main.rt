@@ -1,5 +1,6 @@
 // Replays the oracle's listings of whole and damaged files. Standard input holds files and changes of them, each with the listing that
 // the Rust made of it (oracle/README.md has the format); the counts and the number of listings that differ are written out.
+#![tactic(auto)]
 
 ghost use Rattle.std.specs.Prelude.{◌≡◌, ◌+◌, ◌<◌, ◌≤◌, length};
 

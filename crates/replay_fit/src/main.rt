@@ -1,4 +1,5 @@
 // Replays the oracle's single-step fits.
+#![tactic(auto)]
 
 fn main() {
     replay_calls::replay(false);

@@ -1,5 +1,6 @@
 // Replays the oracle's Jacobians. Standard input holds name slots, then sheets with latitudes and pier codes, and for each of them what
 // the Rust made of every name (oracle/README.md has the format); the counts and the number of answers that differ are written out.
+#![tactic(auto)]
 
 ghost use Rattle.std.specs.Prelude.{◌≡◌, ◌+◌, ◌*◌, ◌<◌, ◌≤◌, length};
 

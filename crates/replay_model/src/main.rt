@@ -1,5 +1,6 @@
 // Replays the oracle's sequences of calls of a model. Standard input holds sheets, then calls, each with what the Rust made of it
 // (oracle/README.md has the format); the counts and the number of answers that differ are written out.
+#![tactic(auto)]
 
 ghost use Rattle.std.specs.Prelude.{◌≡◌, ◌≤◌, length};
 

@@ -1,5 +1,6 @@
 // Replays the oracle's readings of names. Standard input holds name slots, each with what the Rust made of it (oracle/README.md has the
 // format); the counts and the number of readings that differ are written out.
+#![tactic(auto)]
 
 ghost use Rattle.std.specs.Prelude.{◌≤◌, length};
 

@@ -1,5 +1,6 @@
 // Replays the oracle's solves. Standard input holds linear systems, each with what the Rust made of it (oracle/README.md has the format);
 // the counts and the number of solves that differ are written out.
+#![tactic(auto)]
 
 ghost use Rattle.std.specs.Prelude.{◌≡◌, ◌+◌, ◌*◌, ◌<◌, ◌≤◌, length, take};
 ghost use Rattle.limits.specs.Limits.{max_terms};

@@ -1,5 +1,6 @@
 // Loops over lent slices that several files share. The lists that such loops read and write are defined in
 // specs/Sequence.antt, with their laws in proofs/.
+#![tactic(auto)]
 
 ghost use Rattle.std.specs.Prelude.{◌≡◌, length, replicate};
 ghost use Rattle.float.specs.Float.{is_finite};

@@ -1,4 +1,5 @@
 // The single-step fit. It works in the scratch that outcome describes. After solver/single_step.rs.
+#![tactic(auto)]
 
 ghost use Rattle.std.specs.Prelude.{◌≡◌, ◌+◌, ◌*◌, ◌≤◌, length, replicate};
 ghost use mathlib.Core.List.{zip_with};

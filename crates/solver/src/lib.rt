@@ -1,4 +1,5 @@
 // The records of a fit. After solver/mod.rs.
+#![tactic(auto)]
 
 ghost use Rattle.std.specs.Prelude.{◌≡◌};
 ghost use Rattle.solver.specs.Records.{deficient, condition_number, defaults};

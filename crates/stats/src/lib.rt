@@ -1,4 +1,5 @@
 // The statistics of a fit. After solver/stats.rs.
+#![tactic(auto)]
 
 ghost use Rattle.std.specs.Prelude.{◌≡◌, [], ◌+◌, ◌*◌, ◌≤◌, length};
 ghost use Rattle.limits.specs.Limits.{max_terms, max_stars, sheet_numbers};

@@ -1,5 +1,6 @@
 // The questions that a fit is put before any work is done, in the order of docs/SCOPE.md 10.2. After solver/validate.rs, whose refusals are
 // questions 11 to 13.
+#![tactic(auto)]
 
 ghost use Rattle.std.specs.Prelude.{◌≡◌, ◌++◌, ◌*◌, ◌≤◌, ltb, length, drop};
 ghost use Rattle.limits.specs.Limits.{max_terms, max_stars, slot_bytes};

@@ -1,7 +1,7 @@
 -- `float::from_bits` meets its contract. Assumes nothing.
 use Prim.Native.Nat.{ℕ, ◌*◌, ◌%◌, ◌^◌, ◌≤◌, ◌<◌}
 use mathlib.Core.Path.{◌≡◌, refl, sym, ◌∙◌, subst}
-use mathlib.Core.Bool.{true, false, not, false≢true}
+use mathlib.Core.Bool.{true, not, false≢true}
 use borrow.Author.Tests.{lt-ltb}
 use lib.Dec.{T}
 use lib.Arith.{le→nltb}
