@@ -4,7 +4,7 @@ use Prim.Native.Nat.{◌+◌}
 use mathlib.Core.Path.{◌≡◌, ◌∙◌, ap, sym}
 use mathlib.Core.Bool.{false}
 use lib.ListN.{get_or}
-use Rattle.harmonic.specs.Harmonic.{is_digit_lem}
+use Rattle.harmonic.specs.Harmonic.{is_digit}
 use Rattle.harmonic.specs.Inside.{place}
 use Rattle.harmonic.proofs.Steps.{step_short, step_plain, step-digit, is_digit_lem, below, above, past}
 use Rattle.harmonic.proofs.component_at.Goals as goal
@@ -22,9 +22,10 @@ returns-then-d-le57 c =
 pub returns : goal.returns
 returns c =
     let a = c.args in
-    c.placed-2.ensures ∙ ap (λ m. place m (a.i + 2)) c.make_component-2.ensures
-    ∙ sym
-    (step_plain a.chars.now a.i (omega arith)
-    (⊎_elim (λ w. above _ w.3.left)
-    (⊎_elim (λ w. below _ w.2.left) (λ w. past a.chars.now a.i w.left))
-    c.if-i-chars.branch))
+    let no_digit : is_digit (get_or a.chars.now (a.i + 2) 0) ≡ false =
+    elim c.if-i-chars.branch [
+      | then-i-chars+then-d-ge48+else-d-le57 w ↦ above _ w.if-d-le57.false
+      | then-i-chars+else-d-ge48 w ↦ below _ w.if-d-ge48.false
+      | else-i-chars w ↦ past a.chars.now a.i w.if-i-chars.false
+    ] in
+    c.placed-2.ensures ∙ ap (λ m. place m (a.i + 2)) c.make_component-2.ensures ∙ sym (step_plain a.chars.now a.i (omega arith) no_digit)

@@ -11,12 +11,12 @@ loop-i-init c = (omega arith, search rules, refl, refl, wrote_start _ _ (omega a
 
 pub returns-then-name-i-eq0 : goal.returns-then-name-i-eq0
 returns-then-name-i-eq0 c =
-    let name = c.args.t3 in
+    let name = c.args.name in
     let l = c.loop-i in record { wrote = rw (named_stop name l.i (omega arith) c.if-name-i-eq0.true l.invariant.3) l.invariant.4; bound = omega arith }
 
 pub loop-i-preserved : goal.loop-i-preserved
 loop-i-preserved c =
-    let name = c.args.t3 in
+    let name = c.args.name in
     let l = c.loop-i in (
       omega arith,
       l.invariant.1,
@@ -27,6 +27,6 @@ loop-i-preserved c =
 
 pub returns : goal.returns
 returns c =
-    let name = c.args.t3 in
+    let name = c.args.name in
     let l = c.loop-i in
     let e : 16 ≡ l.i = omega arith in record { wrote = rw (named_end name l.i (omega arith) l.invariant.3, e) l.invariant.4; bound = omega arith }

@@ -16,7 +16,7 @@ loop-j-preserved c =
     let l = c.loop-j in
     let w = c.put_term-next in
     let line = line_of a.names.now a.coefficients.now a.sigma.now in
-    (omega arith, omega arith, omega arith, wrote_texts_next line l.j l.invariant.3 (rw add-sub_cancel_left at w.ensures.0))
+    (omega arith, omega arith, omega arith, wrote_texts_next line l.j l.invariant.3 (rw add-sub_cancel_left at w.ensures.wrote))
 
 pub returns : goal.returns
 unfolding term_lines

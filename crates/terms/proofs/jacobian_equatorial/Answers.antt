@@ -11,10 +11,10 @@ pub returns-in-Equatorial : goal.returns-in-Equatorial
 returns-in-Equatorial c =
     let a = c.args in
     let x = point_of a.sheet.now a.sin_lat a.cos_lat a.pier in
-    rw c.kind-1.given.1
+    rw c.in-Equatorial.is
     (c.equatorial_jacobian.ensures
     ∙ ap₂ (λ (code n : ℕ). equatorial_jacobian (kind_of code n) x) c.code.ensures c.txn_number.ensures
-    ∙ ap (λ (t : EquatorialTerm). equatorial_jacobian t x) (kind_of_code c.kind-1.given.0.0))
+    ∙ ap (λ (t : EquatorialTerm). equatorial_jacobian t x) (kind_of_code c.in-Equatorial.t))
 
 pub returns-in-Harmonic : goal.returns-in-Harmonic
-returns-in-Harmonic c = rw c.kind-in-Harmonic-1.given.1 c.harmonic_jacobian.ensures
+returns-in-Harmonic c = rw c.in-Harmonic.is c.harmonic_jacobian.ensures

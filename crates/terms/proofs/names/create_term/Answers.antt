@@ -11,18 +11,18 @@ returns-in-Equatorial c =
     let n = c.args.name.now in
     let is = known_is n _ _ c.requires.bytes c.key_of.ensures c.fixed_name.ensures in
     c.accept.ensures
-    ∙ (λ i. answer 0 (TermKind.Equatorial c.t-1.given.0.0) (c.requires.full_is i) (c.no_components.ensures i))
-    ∙ sym (ap (by_known n) (is ∙ c.t-1.given.1))
+    ∙ (λ i. answer 0 (TermKind.Equatorial c.in-Equatorial.t) (c.requires.full_is i) (c.no_components.ensures i))
+    ∙ sym (ap (by_known n) (is ∙ c.in-Equatorial.is))
 
 pub returns-in-AltAz : goal.returns-in-AltAz
 unfolding by_known
 returns-in-AltAz c =
     let n = c.args.name.now in
     let is = known_is n _ _ c.requires.bytes c.key_of.ensures c.fixed_name.ensures in
-    c.refuse.ensures ∙ sym (ap (by_known n) (is ∙ c.enum_told-1.given.1))
+    c.refuse.ensures ∙ sym (ap (by_known n) (is ∙ c.in-AltAz.is))
 
 pub returns-in-Other : goal.returns-in-Other
 returns-in-Other c =
     let n = c.args.name.now in
     let is = known_is n _ _ c.requires.bytes c.key_of.ensures c.fixed_name.ensures in
-    c.other_term.ensures ∙ sym (ap (by_known n) (is ∙ c.enum_told-in-Other-1.given.1))
+    c.other_term.ensures ∙ sym (ap (by_known n) (is ∙ c.in-Other.is))

@@ -7,64 +7,64 @@ use Rattle.harmonic.proofs.Lookup.{miss}
 use Rattle.terms.proofs.names.fixed_name.Goals as goal
 
 pub returns-in-18505 : goal.returns-in-18505
-returns-in-18505 c = rw c.in-18505.keys1
+returns-in-18505 c = rw c.in-18505.is
 
 pub returns-in-17481 : goal.returns-in-17481
-returns-in-17481 c = rw c.in-17481.keys2
+returns-in-17481 c = rw c.in-17481.is
 
 pub returns-in-18499 : goal.returns-in-18499
-returns-in-18499 c = rw c.in-18499.keys3
+returns-in-18499 c = rw c.in-18499.is
 
 pub returns-in-20558 : goal.returns-in-20558
-returns-in-20558 c = rw c.in-20558.keys4
+returns-in-20558 c = rw c.in-20558.is
 
 pub returns-in-16717 : goal.returns-in-16717
-returns-in-16717 c = rw c.in-16717.keys5
+returns-in-16717 c = rw c.in-16717.is
 
 pub returns-in-17741 : goal.returns-in-17741
-returns-in-17741 c = rw c.in-17741.keys6
+returns-in-17741 c = rw c.in-17741.is
 
 pub returns-in-18004 : goal.returns-in-18004
-returns-in-18004 c = rw c.in-18004.keys7
+returns-in-18004 c = rw c.in-18004.is
 
 pub returns-in-22612 : goal.returns-in-22612
-returns-in-22612 c = rw c.in-22612.keys8
+returns-in-22612 c = rw c.in-22612.is
 
 pub returns-in-4604228 : goal.returns-in-4604228
-returns-in-4604228 c = rw c.in-4604228.keys9
+returns-in-4604228 c = rw c.in-4604228.is
 
 pub returns-in-20294 : goal.returns-in-20294
-returns-in-20294 c = rw c.in-20294.keys10
+returns-in-20294 c = rw c.in-20294.is
 
 pub returns-in-1397048136 : goal.returns-in-1397048136
-returns-in-1397048136 c = rw c.in-1397048136.keys11
+returns-in-1397048136 c = rw c.in-1397048136.is
 
 pub returns-in-1128612680 : goal.returns-in-1128612680
-returns-in-1128612680 c = rw c.in-1128612680.keys12
+returns-in-1128612680 c = rw c.in-1128612680.is
 
 pub returns-in-1397048132 : goal.returns-in-1397048132
-returns-in-1397048132 c = rw c.in-1397048132.keys13
+returns-in-1397048132 c = rw c.in-1397048132.is
 
 pub returns-in-1128612676 : goal.returns-in-1128612676
-returns-in-1128612676 c = rw c.in-1128612676.keys14
+returns-in-1128612676 c = rw c.in-1128612676.is
 
 pub returns-in-16713 : goal.returns-in-16713
-returns-in-16713 c = rw c.in-16713.keys15
+returns-in-16713 c = rw c.in-16713.is
 
 pub returns-in-17737 : goal.returns-in-17737
-returns-in-17737 c = rw c.in-17737.keys16
+returns-in-17737 c = rw c.in-17737.is
 
 pub returns-in-16707 : goal.returns-in-16707
-returns-in-16707 c = rw c.in-16707.keys17
+returns-in-16707 c = rw c.in-16707.is
 
 pub returns-in-1161908302 : goal.returns-in-1161908302
-returns-in-1161908302 c = rw c.in-1161908302.keys18
+returns-in-1161908302 c = rw c.in-1161908302.is
 
 pub returns-in-20033 : goal.returns-in-20033
-returns-in-20033 c = rw c.in-20033.keys19
+returns-in-20033 c = rw c.in-20033.is
 
 pub returns-in-22337 : goal.returns-in-22337
-returns-in-22337 c = rw c.in-22337.keys20
+returns-in-22337 c = rw c.in-22337.is
 
 pub returns-in_default : goal.returns-in_default
-returns-in_default c = sym (miss (keyed fixed_names) Known.Other c.args.key Unit c.in_default.rest)
+returns-in_default c = sym (miss (keyed fixed_names) Known.Other c.args.key Unit c.in_default.in_default-own.rest)

@@ -2,7 +2,6 @@
 use native.Mathlib.Omega.{arith}
 use Prim.Native.Nat.{◌-◌}
 use mathlib.Core.Path.{◌≡◌, ◌∙◌, ap}
-use mathlib.Core.Logic.{⊎_elim}
 use mathlib.Core.Bool.{false, ◌&&◌, and-false}
 use lib.ListN.{length, drop, take, get_or, length-drop, get_or-eq_default}
 use lib.Seq.{take_all}
@@ -11,6 +10,7 @@ use borrow.Author.Tests.{eq-eqb, ne_eqb}
 use Rattle.terms.specs.Names.{by_known, unsigned}
 use Rattle.terms.specs.Inside.{number_of, numbered_read}
 use Rattle.terms.proofs.Digits.{number_back}
+use Rattle.terms.proofs.names.other_term.Goals.{then-name-gt1+then-name-eq84+else-name-eq88, then-name-gt1+else-name-eq84, else-name-gt1}
 use Rattle.terms.proofs.names.other_term.Goals as goal
 
 pub returns-then-name-eq88 : goal.returns-then-name-eq88
@@ -31,8 +31,9 @@ unfolding by_known
 returns c =
     let n = c.args.name.now in
     let no-tx : (eqb (get_or n 0 0) 84 && eqb (get_or n 1 0) 88) ≡ false =
-    ⊎_elim (λ w. rw (ne_eqb (get_or n 1 0) 88 w.4.left, and-false))
-    (⊎_elim (λ w. rw (ne_eqb (get_or n 0 0) 84 w.2.left))
-    (λ w. rw (get_or-eq_default n 0 {n = 1} w.left, and-false)))
-    c.if-name-gt1.branch in
+        elim c.if-name-gt1.branch [
+          then-name-gt1+then-name-eq84+else-name-eq88 w ↦ rw (ne_eqb (get_or n 1 0) 88 w.if-name-eq88.false, and-false)
+          | then-name-gt1+else-name-eq84 w ↦ rw (ne_eqb (get_or n 0 0) 84 w.if-name-eq84.false)
+          | else-name-gt1 w ↦ rw (get_or-eq_default n 0 {n = 1} w.if-name-gt1.false, and-false)
+        ] in
     rw (no-tx, ne_eqb (get_or n 0 0) 72 c.if-name-eq72.false) c.refuse.ensures

@@ -3,7 +3,7 @@ use Prim.Native.Nat.{◌-◌}
 use mathlib.Core.Path.{refl, ◌∙◌, ap, sym}
 use lib.ListN.{get_or}
 use Rattle.terms.specs.Inside.{number_of}
-use Rattle.harmonic.proofs.Steps.{is_digit, below, above}
+use Rattle.harmonic.proofs.Steps.{is_digit_lem, below, above}
 use Rattle.terms.proofs.Digits.{room, digits_next, digits_stop, digits_end}
 use Rattle.terms.proofs.names.read_digits.Goals as goal
 
@@ -25,7 +25,7 @@ overflow_add-v c = let r = room c.loop-i.v c.loop-i.i (get_or c.args.s.now c.loo
 pub loop-i-preserved : goal.loop-i-preserved
 loop-i-preserved c =
     let r = room c.loop-i.v c.loop-i.i (get_or c.args.s.now c.loop-i.i 0 - 48) c.loop-i.invariant.1 (omega arith) (omega arith) in
-    (omega arith, r.0, c.loop-i.invariant.2 ∙ digits_next c.args.s.now c.loop-i.v c.loop-i.i (omega arith) (is_digit _ c.if-d-lt48.false c.if-d-gt57.false))
+    (omega arith, r.0, c.loop-i.invariant.2 ∙ digits_next c.args.s.now c.loop-i.v c.loop-i.i (omega arith) (is_digit_lem _ c.if-d-lt48.false c.if-d-gt57.false))
 
 pub returns : goal.returns
 returns c = sym (ap number_of (c.loop-i.invariant.2 ∙ digits_end c.args.s.now c.loop-i.v c.loop-i.i c.loop-i-test.false))

@@ -2,12 +2,12 @@
 use native.Mathlib.Omega.{arith}
 use Prim.Native.Nat.{◌<◌, ◌-◌}
 use mathlib.Core.Path.{◌∙◌, ap, sym}
-use mathlib.Core.Logic.{⊎_elim}
 use lib.ListN.{length, drop, length-drop}
 use lib.Seq.{take_all}
 use Rattle.terms.specs.Names.{digits_from}
 use Rattle.terms.specs.Inside.{number_of}
 use Rattle.terms.proofs.Digits.{unsigned_none, unsigned-plus, unsigned_bare, unsigned_one}
+use Rattle.terms.proofs.names.read_unsigned.Goals.{then-s-gt1+else-s-eq43, else-s-gt1}
 use Rattle.terms.proofs.names.read_unsigned.Goals as goal
 
 pub returns-then-s-eq0 : goal.returns-then-s-eq0
@@ -27,4 +27,4 @@ returns c =
     let some_byte : 0 < length s = omega arith in
     c.read_digits-2.ensures
     ∙ ap number_of
-    (sym (⊎_elim (λ w. unsigned_bare s w.0.taken w.2.left) (λ w. unsigned_one s some_byte w.left) c.if-s-gt1.branch))
+    (sym (elim c.if-s-gt1.branch [ then-s-gt1+else-s-eq43 w ↦ unsigned_bare s w.if-s-gt1.true w.if-s-eq43.false | else-s-gt1 w ↦ unsigned_one s some_byte w.if-s-gt1.false ]))
