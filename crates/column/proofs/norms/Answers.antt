@@ -2,7 +2,7 @@ use native.Mathlib.Nat.{add-sub_cancel_left}
 use native.Mathlib.Omega.{arith}
 use Rattle.sequence.proofs.Parts.{apart}
 use Rattle.sequence.proofs.Fills.{filling_start, filling_next, filling_end}
-use Rattle.column.specs.Column.{norm, norms}
+use Rattle.column.specs.Column.{norms}
 use Rattle.column.proofs.norms.Goals as goal
 
 pub loop-j-init : goal.loop-j-init

@@ -1,5 +1,4 @@
 use native.Mathlib.Omega.{arith}
-use Rattle.column.specs.Column.{unit_column}
 use Rattle.column.proofs.Laws.{length_unit}
 use Rattle.column.proofs.Columns.{lending_start, lending_room, lending_next, lending_end}
 use Rattle.column.proofs.unit_columns.Goals as goal
