@@ -17,8 +17,8 @@ returns-in_default c =
 pub returns-then-not-read : goal.returns-then-not-read
 returns-then-not-read c =
     c.malformed-then-not-read.ensures
-    ∙ no_components c.args.name.now c.if-name-lt4.false c.if-name-ne72.false c.result-1.given.0.0
-    (sym c.parse_result_type.ensures ∙ c.result-1.given.1)
+    ∙ no_components c.args.name.now c.if-name-lt4.false c.if-name-ne72.false c.in-Result.result
+    (sym c.parse_result_type.ensures ∙ c.in-Result.is)
     c.parse_components-read.result c.parse_components-read.ensures (not-true _ c.if-not-read.true)
 
 pub returns : goal.returns
