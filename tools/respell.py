@@ -17,8 +17,8 @@ DECLARED = re.compile(r"(?m)^((?:(?:abbrev|unfoldable|pub|data|record|ruleset) +
 INNER = re.compile(r"(?m)^ +pub ([^\s:(){}\[\].,;=]+) *:(?!\S)")
 MEMBER = re.compile(r"(?m)^ +(?:pub )?([^\s:(){}\[\].,;=]+) *:(?!\S) *(?!tie\.)")
 # lemmas that would have the name of the definition they are about, by the crate
-LEMMAS = {("best", "units_of"): "units_of_lem", ("harmonic", "is_digit"): "is_digit_lem", ("linalg", "in_order"): "in_order_lem", ("pmf", "room-sizes"): "room_sizes_lem", ("pmf", "fit-text"): "fit_text_lem",
-          ("float", "is-nan"): "is_nan_lem"}
+LEMMAS = {("best", "units_of", "unitsOf"): "units_of_lem", ("harmonic", "is_digit", "isDigit"): "is_digit_lem", ("linalg", "in_order", "inOrder"): "in_order_lem",
+          ("pmf", "room-sizes", "roomSizes"): "room_sizes_lem", ("pmf", "fit-text", "fitText"): "fit_text_lem", ("float", "is-nan", "isFinite"): "is_nan_lem"}
 # definitions that would have the name of a field that they are about
 DEFINITIONS = {"huberK": "huber_k_of", "pierSensitive": "pier_sensitive_of"}
 EDGE = r"[\w\-'→←≤≡≢#₀₁₂]"
@@ -83,9 +83,9 @@ def main():
     written, bad = {}, 0
     for f in files() + sources():
         text = open(f, encoding="utf-8").read()
-        for (of, old), new in LEMMAS.items():
-            if of == f.split("/")[1] and f.endswith(".antt") and "/proofs/" in f:
-                text = re.sub(f"(?<!{EDGE}|\\.){re.escape(old)}(?!{EDGE})", new, text) if (of, old) != ("float", "is-nan") else text.replace("is-nan", new)
+        for (of, old, definition), new in LEMMAS.items():
+            if of == f.split("/")[1] and "/proofs/" in f and (definition in names or of == "float"):
+                text = re.sub(f"(?<!{EDGE}|\\.){re.escape(old)}(?!{EDGE})", new, text)
         imported = set()
         crate = f.split("/")[1]
         for module, listed in re.findall(r"(?m)^(?:ghost )?(?:pub )?use ([\w.+·-]+)\.\{([^}]*)\}", text):

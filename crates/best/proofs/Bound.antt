@@ -8,7 +8,7 @@ use lib.Ieee.{Float}
 use Rattle.float.specs.Float.{#0, ◌⊕◌, ◌⊗◌}
 use Rattle.float.proofs.Zero.{zero_is}
 use Rattle.sequence.specs.Sequence.{sum_to}
-use Rattle.best.specs.ChiSquare.{chi, units_of_lem, exact, TameValue, AllTameValues}
+use Rattle.best.specs.ChiSquare.{chi, units_of, exact, TameValue, AllTameValues}
 use Rattle.best.proofs.Close.{Close, Upto, upto_more, upto_at_most, close_trans, close_more, close_add, close_eq}
 use Rattle.best.proofs.Rounding.{P, N, M, N≤M}
 use Rattle.best.proofs.Operations.{Within, sum_within}
@@ -39,14 +39,14 @@ within_more x j k s l (t, v, c) = (t, v, close_more N M j k (t * P) s N≤M l c)
 -- ---- one star
 
 abbrev pair_of : Float → Float → ℕ
-pair_of x y = units_of_lem x * units_of_lem x + units_of_lem y * units_of_lem y
+pair_of x y = units_of x * units_of x + units_of y * units_of y
 
 pair-le : (x y : Float) → TameValue x → TameValue y → pair_of x y ≤ 2 ^ 2949
 pair-le x y f g = le_trans (add-le-add (square_le x f) (square_le y g)) (lit≤ {m = 2 ^ 2948 + 2 ^ 2948} {n = 2 ^ 2949} tt)
 
 pair_within : (x y : Float) → TameValue x → TameValue y → Within (x ⊗ x ⊕ y ⊗ y) 2 (pair_of x y)
 pair_within x y f g =
-    added (x ⊗ x) (y ⊗ y) 1 (units_of_lem x * units_of_lem x) (units_of_lem y * units_of_lem y) (2 ^ 2949) (lit≤ tt) (pair-le x y f g) (lit< tt)
+    added (x ⊗ x) (y ⊗ y) 1 (units_of x * units_of x) (units_of y * units_of y) (2 ^ 2949) (lit≤ tt) (pair-le x y f g) (lit< tt)
     (square_of x f) (square_of y g)
 
 -- ---- n stars

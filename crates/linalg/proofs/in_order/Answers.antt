@@ -1,4 +1,4 @@
--- `linalg::in_order_lem` meets its contract. Assumes nothing.
+-- `linalg::in_order` meets its contract. Assumes nothing.
 use mathlib.Core.Path.{sym, ap, ◌∙◌}
 use mathlib.Core.List.{List, ◌++◌}
 use Prim.Native.Nat.{ℕ}
