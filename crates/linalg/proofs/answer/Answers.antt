@@ -21,12 +21,12 @@ bounds-o-m c = omega (arith, c.requires.1, c.requires.2)
 
 pub offset_bounds-values-first : goal.offset_bounds-values-first
 offset_bounds-values-first c =
-    let at_first = taken_at (take c.args.m c.args.t8) 0 c.requires.0.taken (omega (arith, c.requires.1, c.requires.2)) in
+    let at_first = taken_at (take c.args.m c.args.order) 0 c.requires.0.taken (omega (arith, c.requires.1, c.requires.2)) in
     omega (arith, at_first, c.requires.0.taken.few)
 
 pub bounds-values-first : goal.bounds-values-first
 bounds-values-first c =
-    let at_first = taken_at (take c.args.m c.args.t8) 0 c.requires.0.taken (omega (arith, c.requires.1, c.requires.2)) in
+    let at_first = taken_at (take c.args.m c.args.order) 0 c.requires.0.taken (omega (arith, c.requires.1, c.requires.2)) in
     omega (arith, at_first, c.requires.0.taken.few)
 
 pub invert-k-requires : goal.invert-k-requires
@@ -43,17 +43,17 @@ covariance-cov_diag-requires c = (c.requires.0, omega (arith, c.requires.2, c.re
 
 pub offset_bounds-values-last : goal.offset_bounds-values-last
 offset_bounds-values-last c =
-    let at_last = taken_at (take c.args.m c.args.t8) (c.args.m - 1) c.requires.0.taken (omega (arith, c.requires.1, c.requires.2)) in
+    let at_last = taken_at (take c.args.m c.args.order) (c.args.m - 1) c.requires.0.taken (omega (arith, c.requires.1, c.requires.2)) in
     omega (arith, at_last, c.requires.0.taken.few)
 
 pub bounds-values-last : goal.bounds-values-last
 bounds-values-last c =
-    let at_last = taken_at (take c.args.m c.args.t8) (c.args.m - 1) c.requires.0.taken (omega (arith, c.requires.1, c.requires.2)) in
+    let at_last = taken_at (take c.args.m c.args.order) (c.args.m - 1) c.requires.0.taken (omega (arith, c.requires.1, c.requires.2)) in
     omega (arith, at_last, c.requires.0.taken.few)
 
 pub returns : goal.returns
 returns c =
     let a = c.args in
     let d : Decomposed = record { norms = a.d.norms; w = a.w.now; values = a.d.values; made = a.d.made; settled = a.d.settled } in
-    answers a.h a.rows a.m _ a.fit_tol d a.t8 _ _ _ _ _
+    answers a.h a.rows a.m _ a.fit_tol d a.order _ _ _ _ _
     c.threshold-t.ensures c.invert-k.ensures c.project-z.ensures c.solution-x.ensures c.covariance-cov_diag.ensures

@@ -1,7 +1,7 @@
 use mathlib.Core.Path.{refl}
 use native.Mathlib.Omega.{arith}
 use Rattle.sequence.proofs.Fills.{filling_start, filling_next, filling_end}
-use Rattle.linalg.specs.Linalg.{scaled_variance, covariance}
+use Rattle.linalg.specs.Linalg.{covariance}
 use Rattle.linalg.proofs.covariance.Goals as goal
 
 pub loop-j-init : goal.loop-j-init

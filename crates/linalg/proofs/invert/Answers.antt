@@ -1,11 +1,11 @@
 use mathlib.Core.Path.{refl}
-use mathlib.Core.Logic.{⊎_elim}
 use native.Mathlib.Omega.{arith}
 use lib.ListN.{length}
 use Rattle.sequence.proofs.Fills.{filling_start, filling_next, filling_end}
 use Rattle.linalg.specs.Linalg.{inverses}
 use Rattle.linalg.proofs.Laws.{taken_at, inverse_above, inverse_not, rank_none, rank_above, rank_not, rank_end}
 use Rattle.linalg.proofs.invert.Goals as goal
+use Rattle.linalg.proofs.invert.Goals.{then-v-t, else-v-t}
 
 pub loop-i-init : goal.loop-i-init
 loop-i-init c = (refl, omega arith, rank_none _ _ _, filling_start)
@@ -19,14 +19,14 @@ bounds-s-o c = omega (arith, taken_at c.args.o.now c.loop-i.i c.requires (omega 
 pub loop-i-preserved : goal.loop-i-preserved
 loop-i-preserved c =
     let u = c.loop-i in
-    ⊎_elim
-    (λ k.
-    let rank = rank_above _ _ _ u.i u.rank u.invariant.2 k.0.taken in
-    rw (k.1, k.2) (u.invariant.0, omega arith, rank, filling_next u.invariant.3 (omega arith) (omega arith) (inverse_above _ _ k.0.taken)))
-    (λ k.
-    let rank = rank_not _ _ _ u.i u.rank u.invariant.2 k.0.left in
-    rw (k.1, k.2) (u.invariant.0, omega arith, rank, filling_next u.invariant.3 (omega arith) (omega arith) (inverse_not _ _ k.0.left)))
-    c.if-v-t.branch
+    elim c.if-v-t.branch [
+      | then-v-t k ↦
+          let rank = rank_above _ _ _ u.i u.rank u.invariant.2 k.if-v-t.true in
+          rw (k.inv_s-is, k.rank-is) (u.invariant.0, omega arith, rank, filling_next u.invariant.3 (omega arith) (omega arith) (inverse_above _ _ k.if-v-t.true))
+      | else-v-t k ↦
+          let rank = rank_not _ _ _ u.i u.rank u.invariant.2 k.if-v-t.false in
+          rw (k.inv_s-is, k.rank-is) (u.invariant.0, omega arith, rank, filling_next u.invariant.3 (omega arith) (omega arith) (inverse_not _ _ k.if-v-t.false))
+    ]
 
 pub returns : goal.returns
 unfolding inverses

@@ -3,7 +3,6 @@ use Prim.Native.Nat.{◌≤◌, ◌+◌, ◌*◌}
 use native.Mathlib.Nat.{add-sub_cancel_left}
 use native.Mathlib.Omega.{arith}
 use lib.ListN.{length, get_or}
-use Rattle.sequence.specs.Sequence.{at, dot}
 use Rattle.sequence.proofs.Parts.{length_part}
 use Rattle.sequence.proofs.Fills.{filling_start, filling_next, filling_end}
 use Rattle.linalg.specs.Linalg.{projected}

@@ -1,7 +1,7 @@
 use mathlib.Core.Path.{refl}
 use native.Mathlib.Omega.{arith}
 use Rattle.sequence.proofs.Fills.{filling_start, filling_next, filling_end}
-use Rattle.linalg.specs.Linalg.{x_scaled, solution}
+use Rattle.linalg.specs.Linalg.{solution}
 use Rattle.linalg.proofs.solution.Goals as goal
 
 pub loop-j-init : goal.loop-j-init

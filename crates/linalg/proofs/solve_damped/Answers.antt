@@ -15,7 +15,8 @@ pub returns : goal.returns
 unfolding solved_damped
 returns c =
     let a = c.args in
-    rw (c.if-lambda.false, ← c.sqrt.ensures)
-    (then_solved (λ x y. solved a.h (a.rows + a.m) a.m x y a.fit_tol) (diagonals a.h a.rows a.m c.sqrt.result)
-    a.w.now c.diagonals.new.0 _ a.c (a.m * a.h) a.b a.rows _ c.requires.3 c.requires.4 c.diagonals.auto.0 c.diagonals.ensures
-    c.solve_and_covariance-2.ensures)
+    let e =
+    then_solved (λ x y. solved a.h (a.rows + a.m) a.m x y a.fit_tol) (diagonals a.h a.rows a.m c.sqrt.result)
+    a.w.now c.diagonals.new.w _ a.c (a.m * a.h) a.b a.rows _ c.requires.3 c.requires.4 c.diagonals.auto.w c.diagonals.ensures
+    (c.solve_and_covariance-2.ensures.solution, c.solve_and_covariance-2.ensures.only) in
+    record { solution = rw (c.if-lambda.false, ← c.sqrt.ensures) e.0; only = e.1 }

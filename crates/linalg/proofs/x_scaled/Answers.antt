@@ -2,7 +2,7 @@ use mathlib.Core.Path.{refl}
 use native.Mathlib.Omega.{arith}
 use lib.ListN.{length}
 use Rattle.sequence.proofs.Sums.{sum_none, added, sum_end}
-use Rattle.linalg.specs.Linalg.{entry, x_scaled}
+use Rattle.linalg.specs.Linalg.{x_scaled}
 use Rattle.linalg.proofs.x_scaled.Invariants.{adds}
 use Rattle.linalg.proofs.x_scaled.Goals as goal
 

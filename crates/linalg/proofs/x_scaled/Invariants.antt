@@ -6,7 +6,6 @@ use lib.ListN.{length}
 use lib.Ieee.{Float}
 use Rattle.float.specs.Float.{◌⊗◌}
 use Rattle.sequence.specs.Sequence.{at, sum_to}
-use Rattle.sequence.proofs.Sums.{added}
 use Rattle.linalg.specs.Linalg.{entry}
 use Rattle.linalg.proofs.x_scaled.Given as goal
 
