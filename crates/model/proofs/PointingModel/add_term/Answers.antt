@@ -21,7 +21,7 @@ returns-then-reading-ne0 c = rw (← c.refusal-no.ensures, eq-eqb _ 0 c.if-no-ne
 
 pub has_name-requires : goal.has_name-requires
 has_name-requires c =
-    let m = c.args.t1 in
+    let m = c.args.self in
     let few : m.count ≤ 32 = (passed _ _ _ _ _ _ (sym c.refusal-no.ensures ∙ c.if-no-ne0.false)).few in
     let names : length m.names ≡ 512 = search rules in
     let yes = ap (λ (r : Reading). r.refusal) (sym c.read_term-reading.ensures) ∙ c.if-reading-ne0.false in

@@ -18,4 +18,4 @@ pub returns : goal.returns
 returns c =
     let a = c.args in
     let l = c.loop-k in
-    rw (l.invariant.0, take_all l.k a.t3 (omega arith)) at l.invariant.4
+    rw (l.invariant.0, take_all l.k a.stored (omega arith)) at l.invariant.4
