@@ -9,16 +9,16 @@ use Rattle.design.proofs.Terms.{turns}
 use Rattle.design.proofs.add_column.Goals as goal
 
 pub slice_bounds-fill_column-end-2 : goal.slice_bounds-fill_column-end-2
-slice_bounds-fill_column-end-2 c =
+slice_bounds-fill_column-end-2 g c =
     let a = c.args in
     sym (length-take-le (2 * length a.used.now) a.v.now (omega arith))
 
 pub fill_column-requires : goal.fill_column-requires
-fill_column-requires c = record { used_value = c.requires.used_value; seen = length-take-le (2 * length c.args.used.now) c.args.v.now (omega arith) }
+fill_column-requires g c = (c.requires.0, (c.requires.1.0, length-take-le (2 * length c.args.used.now) c.args.v.now (omega arith)))
 
 pub returns : goal.returns
-returns c =
+returns g c =
     let a = c.args in
     let f = c.fill_column in
-    turns (λ y x. y ⊕ x ⊗ a.c) a.v.now f.new.1.1.1.1.1.0 _ _ (2 * length a.used.now) (omega arith)
-    f.auto.1.1.1.1.1.0 f.ensures c.add_scaled.ensures
+    turns (λ y x. y ⊕ x ⊗ a.c) a.v.now f.new.col _ _ (2 * length a.used.now) (omega arith)
+    f.auto.col f.ensures c.add_scaled.ensures

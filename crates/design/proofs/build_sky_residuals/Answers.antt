@@ -1,19 +1,18 @@
-use Prim.Native.Nat.{◌<◌}
-use mathlib.Core.Path.{refl, ◌∙◌}
-use mathlib.Core.List.{[]}
-use lib.ListN.{length, length-set}
+use Prim.Native.Nat.{ℕ, ◌<◌}
+use mathlib.Core.Path.{◌≡◌, refl, ◌∙◌}
+use mathlib.Core.List.{List, []}
+use lib.ListN.{length, get_or, length-set}
 use lib.Ieee.{nan}
 use native.Mathlib.Omega.{arith}
 use Rattle.design.specs.Design.{star_at, sky_differences}
+use Rattle.design.specs.Counted.{Below}
 use Rattle.sequence.proofs.Partway.{start, pair, end}
 use Rattle.design.proofs.Rows.{count, hour, dec}
 use Rattle.design.proofs.build_sky_residuals.Goals as goal
 
 -- the index lies on the page
-below : (c : goal.After-index-i)
-    → c.index-i.result < length c.args.dh.now
-below c =
-    rw c.index-i.ensures (c.requires.2 c.loop-r.r (omega arith))
+below : (n r i : ℕ) (used : List ℕ) → Below n used → r < length used → i ≡ get_or used r 0 → i < n
+below n r i used b l e = rw e (b r l)
 
 pub loop-r-init : goal.loop-r-init
 unfolding sky_differences
@@ -22,19 +21,19 @@ loop-r-init c =
     (refl, omega arith, start _ _ (count (star_at a.dh.now a.dd.now [] a.sheets.now) _ _ a.used.now ∙ omega arith))
 
 pub cos_dec-c-requires : goal.cos_dec-c-requires
-cos_dec-c-requires c = omega (arith, below c)
+cos_dec-c-requires c = omega (arith, below _ _ _ _ c.requires.2 (omega arith) c.index-i.ensures)
 
 pub offset_bounds-dh-i : goal.offset_bounds-dh-i
-offset_bounds-dh-i c = omega (arith, below c.before)
+offset_bounds-dh-i c = omega (arith, below _ _ _ _ c.requires.2 (omega arith) c.index-i.ensures)
 
 pub bounds-dh-i : goal.bounds-dh-i
-bounds-dh-i c = omega (arith, below c.before.before)
+bounds-dh-i c = omega (arith, below _ _ _ _ c.requires.2 (omega arith) c.index-i.ensures)
 
 pub offset_bounds-dd-i : goal.offset_bounds-dd-i
-offset_bounds-dd-i c = omega (arith, below c.before.before)
+offset_bounds-dd-i c = omega (arith, below _ _ _ _ c.requires.2 (omega arith) c.index-i.ensures)
 
 pub bounds-dd-i : goal.bounds-dd-i
-bounds-dd-i c = omega (arith, below c.before.before.before)
+bounds-dd-i c = omega (arith, below _ _ _ _ c.requires.2 (omega arith) c.index-i.ensures)
 
 pub bounds-b-r-in-loop-r : goal.bounds-b-r-in-loop-r
 bounds-b-r-in-loop-r c = simp length-set (omega arith)

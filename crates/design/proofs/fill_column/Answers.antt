@@ -4,8 +4,8 @@ use Rattle.design.proofs.fill_column.Goals as goal
 
 pub returns-in-Equatorial : goal.returns-in-Equatorial
 unfolding column
-returns-in-Equatorial c = rw c.kind-1.given.1 c.fill_equatorial.ensures
+returns-in-Equatorial g c = rw c.in-Equatorial.is c.fill_equatorial.ensures
 
 pub returns-in-Harmonic : goal.returns-in-Harmonic
 unfolding column
-returns-in-Harmonic c = rw c.kind-in-Harmonic-1.given.1 c.fill_harmonic.ensures
+returns-in-Harmonic g c = rw c.in-Harmonic.is c.fill_harmonic.ensures

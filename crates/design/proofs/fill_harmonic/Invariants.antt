@@ -9,8 +9,8 @@ use Rattle.design.proofs.Rows.{Pairing}
 use Rattle.design.proofs.fill_harmonic.Given as goal
 
 abbrev pub invariant-loop-r : goal.invariant-loop-r
-invariant-loop-r l = (l.r-end ≡ length l.used)
+invariant-loop-r g l = (l.r-end ≡ length l.used)
     × Pairing (λ x. harmonic_jacobian l.res (evaluate x.sheet l.components) (point_at l.s x)) (star_at [] [] l.pier l.sheets) l.used l.initial.col l.r l.col
 
 abbrev pub decreases-loop-r : goal.decreases-loop-r
-decreases-loop-r l = l.r-end - l.r
+decreases-loop-r g l = l.r-end - l.r

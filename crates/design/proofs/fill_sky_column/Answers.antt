@@ -6,9 +6,11 @@ use Rattle.design.proofs.Stars.{sky_column_is, sky_rows-same}
 use Rattle.design.proofs.fill_sky_column.Goals as goal
 
 pub returns : goal.returns
-returns c =
+returns g c =
     let a = c.args in
-    c.scale_ha_rows.ensures
-    ∙ ap (sky_rows (sights_at [] a.sheets.now a.used.now)) c.fill_column.ensures
+    let filled = rw (← c.requires.0) at c.fill_column.ensures in
+    rw (← c.requires.0)
+    (c.scale_ha_rows.ensures
+    ∙ ap (sky_rows (sights_at [] a.sheets.now a.used.now)) filled
     ∙ sym (sky_rows-same [] [] a.pier.now a.sheets.now a.used.now _)
-    ∙ sky_column_is [] [] a.pier.now a.sheets.now a.used.now a.s a.term
+    ∙ sky_column_is [] [] a.pier.now a.sheets.now a.used.now a.s a.term)

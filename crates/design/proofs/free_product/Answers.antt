@@ -23,28 +23,28 @@ unfolding product
 done k x s ss names free n v b₀ b p e same z = rw (same, z) at e
 
 pub loop-i-init : goal.loop-i-init
-loop-i-init c = (turned_none, only_none 0 _ _, omega arith)
+loop-i-init g c = (turned_none, only_none 0 _ _, omega arith)
 
 pub term_at-t-requires : goal.term_at-t-requires
-term_at-t-requires c = rw c.index.ensures (c.requires.2 c.loop-i.i (omega arith))
+term_at-t-requires g c = rw c.index.ensures (c.requires.1.2 c.loop-i.i (omega arith))
 
 pub weighed_column-requires : goal.weighed_column-requires
-weighed_column-requires c = record { used_value = c.requires.used_value; seen = (inl (omega arith), omega arith, omega arith) }
+weighed_column-requires g c = (c.requires.0, (c.requires.1.0, inl (omega arith), omega arith, omega arith))
 
 pub add_scaled-requires : goal.add_scaled-requires
-add_scaled-requires c = (omega arith, omega arith)
+add_scaled-requires g c = (omega arith, omega arith)
 
 pub overflow_step-i : goal.overflow_step-i
-overflow_step-i c = omega (arith, c.requires.seen)
+overflow_step-i g c = omega (arith, c.requires.1.1)
 
 pub loop-i-preserved : goal.loop-i-preserved
-loop-i-preserved c =
+loop-i-preserved g c =
     let u = c.loop-i in
     let a = c.args in
     let n = length a.used.now in
     let e = c.weighed_column.ensures in
     let same = u.invariant.1.above (6 * n) (2 * n) (omega arith) in
-    let p = combines (λ y x. y ⊕ x ⊗ at a.x.now u.i) u.v _ _ _ (2 * n) (omega (arith, u.invariant.2)) e.0 e.1 c.add_scaled.ensures in
+    let p = combines (λ y x. y ⊕ x ⊗ at a.x.now u.i) u.v _ _ _ (2 * n) (omega (arith, u.invariant.2)) e.filled e.only c.add_scaled.ensures in
     let is = c.term_at-t.ensures ∙ ap (term_at a.names.now) c.index.ensures in (
       turned_next u.invariant.0 _ _ (omega arith) refl p.1.long is (rw same at p.0),
       only_then 0 (4 * n) _ u.v _ u.invariant.1
@@ -53,11 +53,15 @@ loop-i-preserved c =
     )
 
 pub returns : goal.returns
-returns c =
+returns g c =
     let u = c.loop-i in
     let a = c.args in
     let n = length a.used.now in
-    let z = zeroed a.v.now c.fill.new.0 (2 * n) (2 * n + 2 * n) refl (omega arith) c.fill.ensures in
-    let only = back_only a.v.now c.fill.new.0 (2 * n) (2 * n) (omega arith) c.fill.auto.0 in
-    let same = only.above (6 * n) (2 * n) (omega arith) in record { filled = done a.k a.x.now a.s _ a.names.now a.free.now (2 * n) _ _ _ _ (turned_end u.invariant.0 (omega arith)) same z; only = (only_then 0 (4 * n) a.v.now _ u.v (only_wider (2 * n) (2 * n) 0 (4 * n) a.v.now _ (omega arith) (omega arith) only)
-          u.invariant.1, ) }
+    let z = zeroed a.v.now c.fill.new.s (2 * n) (2 * n + 2 * n) refl (omega arith) c.fill.ensures in
+    let only = back_only a.v.now c.fill.new.s (2 * n) (2 * n) (omega arith) c.fill.auto.s in
+    let same = only.above (6 * n) (2 * n) (omega arith) in record {
+      filled = done a.k a.x.now a.s _ a.names.now a.free.now (2 * n) _ _ _ _ (turned_end u.invariant.0 (omega arith)) same z;
+      only =
+          only_then 0 (4 * n) a.v.now _ u.v
+          (only_wider (2 * n) (2 * n) 0 (4 * n) a.v.now _ (omega arith) (omega arith) only) u.invariant.1;
+    }

@@ -8,21 +8,24 @@ use lib.Ieee.{Float}
 use Rattle.terms.specs.declared.Term.{Term}
 use Rattle.solver.specs.declared.Settings.{Settings}
 use Rattle.sequence.specs.Sequence.{at, part, Only}
-use Rattle.design.specs.Design.{sights_at, term_at, sky_column, plus, weighing}
+use Rattle.design.specs.Design.{Star, term_at, sky_column, plus, weighing}
 use Rattle.design.proofs.Terms.{Turned}
 use Rattle.design.proofs.free_product.Given as goal
 
 -- the column of a term, whose rows have the residuals in v
-abbrev pub col : Float → List Float → Settings → List ℕ → List Float → List ℕ → Term → List Float
-col k v s pier sheets used t = weighing k (part v (6 * length used) (2 * length used)) (sky_column s (sights_at pier sheets used) t)
+abbrev pub col : Float → List Float → Settings → List Star → ℕ → Term → List Float
+col k v s ss n t = weighing k (part v (6 * n) (2 * n)) (sky_column s ss t)
 
 -- the i-th free term
 abbrev pub term : List ℕ → List ℕ → ℕ → Term
 term names free i = term_at names (get_or free i 0)
 
 abbrev pub invariant-loop-i : goal.invariant-loop-i
-invariant-loop-i l = Turned (λ y. false) plus (at l.x) (col l.k l.initial.v l.s l.pier l.sheets l.used) (term l.names l.free) (2 * length l.used) l.i-end l.initial.v l.v l.i
+invariant-loop-i g l = Turned (λ y. false) plus (at l.x) (col l.k l.initial.v l.s g.ss (length l.used)) (term l.names l.free) (2 * length l.used) l.i-end l.initial.v l.v l.i
     × Only 0 (4 * length l.used) l.initial.v l.v × (length l.v ≡ 8 * length l.used)
 
 abbrev pub decreases-loop-i : goal.decreases-loop-i
-decreases-loop-i l = l.i-end - l.i
+decreases-loop-i g l = l.i-end - l.i
+
+abbrev pub ghost-weighed_column : goal.ghost-weighed_column
+ghost-weighed_column g a = g.ss

@@ -3,12 +3,15 @@ use Prim.Native.Nat.{◌-◌, ◌*◌}
 use lib.ListN.{length}
 use mathlib.Core.Bool.{false}
 use Rattle.sequence.specs.Sequence.{at}
-use Rattle.design.specs.Design.{sights_at, term_at, column, plus}
+use Rattle.design.specs.Design.{term_at, column, plus}
 use Rattle.design.proofs.Terms.{Turned}
 use Rattle.design.proofs.product.Given as goal
 
 abbrev pub invariant-loop-j : goal.invariant-loop-j
-invariant-loop-j l = Turned (λ x. false) plus (at l.coefficients) (column l.s (sights_at l.pier l.sheets l.used)) (term_at l.names) (2 * length l.used) l.j-end l.initial.v l.v l.j
+invariant-loop-j g l = Turned (λ x. false) plus (at l.coefficients) (column l.s g.ss) (term_at l.names) (2 * length l.used) l.j-end l.initial.v l.v l.j
 
 abbrev pub decreases-loop-j : goal.decreases-loop-j
-decreases-loop-j l = l.j-end - l.j
+decreases-loop-j g l = l.j-end - l.j
+
+abbrev pub ghost-add_column : goal.ghost-add_column
+ghost-add_column g a = g.ss

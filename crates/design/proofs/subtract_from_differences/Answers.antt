@@ -1,20 +1,19 @@
-use Prim.Native.Nat.{◌<◌, ◌+◌, ◌*◌}
-use mathlib.Core.Path.{refl, ◌∙◌}
-use mathlib.Core.List.{[]}
-use lib.ListN.{length, length-set}
+use Prim.Native.Nat.{ℕ, ◌<◌, ◌+◌, ◌*◌}
+use mathlib.Core.Path.{◌≡◌, refl, ◌∙◌}
+use mathlib.Core.List.{List, []}
+use lib.ListN.{length, get_or, length-set}
 use lib.Ieee.{nan, binary64, sub}
 use native.Mathlib.Omega.{arith}
 use Rattle.sequence.proofs.Parts.{length-zip}
 use Rattle.sequence.proofs.Partway.{start, pair, read, end}
+use Rattle.design.specs.Counted.{Below}
 use Rattle.design.specs.Design.{star_at, differences}
 use Rattle.design.proofs.Rows.{count, zip-hour, zip-dec}
 use Rattle.design.proofs.subtract_from_differences.Goals as goal
 
 -- the index lies on the page
-below : (c : goal.After-index-i)
-    → c.index-i.result < length c.args.dh.now
-below c =
-    rw c.index-i.ensures (c.requires.1 c.loop-r.r (omega arith))
+below : (n r i : ℕ) (used : List ℕ) → Below n used → r < length used → i ≡ get_or used r 0 → i < n
+below n r i used b l e = rw e (b r l)
 
 pub loop-r-init : goal.loop-r-init
 unfolding differences
@@ -24,16 +23,16 @@ loop-r-init c =
     (refl, omega arith, start _ _ (length-zip (sub binary64) _ _ (n ∙ omega arith) ∙ n ∙ omega arith))
 
 pub offset_bounds-dh-i : goal.offset_bounds-dh-i
-offset_bounds-dh-i c = omega (arith, below c)
+offset_bounds-dh-i c = omega (arith, below _ _ _ _ c.requires.1 (omega arith) c.index-i.ensures)
 
 pub bounds-dh-i : goal.bounds-dh-i
-bounds-dh-i c = omega (arith, below c.before)
+bounds-dh-i c = omega (arith, below _ _ _ _ c.requires.1 (omega arith) c.index-i.ensures)
 
 pub offset_bounds-dd-i : goal.offset_bounds-dd-i
-offset_bounds-dd-i c = omega (arith, below c.before.before)
+offset_bounds-dd-i c = omega (arith, below _ _ _ _ c.requires.1 (omega arith) c.index-i.ensures)
 
 pub bounds-dd-i : goal.bounds-dd-i
-bounds-dd-i c = omega (arith, below c.before.before.before)
+bounds-dd-i c = omega (arith, below _ _ _ _ c.requires.1 (omega arith) c.index-i.ensures)
 
 pub bounds-b-r-in-loop-r-3 : goal.bounds-b-r-in-loop-r-3
 bounds-b-r-in-loop-r-3 c = simp length-set (omega arith)

@@ -4,7 +4,7 @@ use native.Mathlib.Nat.{le_refl}
 use native.Mathlib.Omega.{arith}
 use Rattle.sequence.proofs.Parts.{sets_same}
 use Rattle.sequence.proofs.Combine.{start, next, end}
-use Rattle.design.specs.Design.{weighed, weighing}
+use Rattle.design.specs.Design.{weighing}
 use Rattle.design.proofs.weigh.Goals as goal
 
 pub loop-i-init : goal.loop-i-init

@@ -7,18 +7,20 @@ use Rattle.design.proofs.Terms.{apart_beside, weighs}
 use Rattle.design.proofs.weighed_column.Goals as goal
 
 pub fill_sky_column-requires : goal.fill_sky_column-requires
-fill_sky_column-requires c =
-    let a = c.args in record { used_value = c.requires.used_value; seen = length_cut a.w.now a.x (2 * length a.used.now) c.requires.2 }
+fill_sky_column-requires g c =
+    let a = c.args in (c.requires.0, (c.requires.1.0, length_cut a.w.now a.x (2 * length a.used.now) c.requires.1.2))
 
 pub weigh-requires : goal.weigh-requires
-weigh-requires c =
+weigh-requires g c =
     let n = length c.args.used.now in
-    (apart_beside c.args.x (2 * n) (6 * n) c.requires.seen, omega (arith, c.requires.2), omega (arith, c.requires.3))
+    (apart_beside c.args.x (2 * n) (6 * n) c.requires.1.1, omega (arith, c.requires.1.2), omega (arith, c.requires.1.3))
 
 pub returns : goal.returns
-returns c =
+returns g c =
     let a = c.args in
     let n = length a.used.now in
     let f = c.fill_sky_column in
-    weighs a.k a.w.now f.new.1.1.1.1.1.0 _ _ a.x (2 * n) (6 * n) c.requires.seen c.requires.2 (omega (arith, c.requires.3))
-    f.auto.1.1.1.1.1.0 f.ensures c.weigh.ensures
+    let p =
+    weighs a.k a.w.now f.new.col _ _ a.x (2 * n) (6 * n) c.requires.1.1 c.requires.1.2 (omega (arith, c.requires.1.3))
+    f.auto.col f.ensures c.weigh.ensures in
+    record { filled = p.0; only = p.1 }

@@ -4,11 +4,18 @@ use Rattle.lm_system.proofs.Laws.{chi2_is}
 use Rattle.lm_system.proofs.chi2_at_state.Goals as goal
 
 pub residuals_under_state-requires : goal.residuals_under_state-requires
-residuals_under_state-requires c = c.requires
+residuals_under_state-requires g c = (c.requires.0, c.requires.1)
 
 pub sum_sq_sky-requires : goal.sum_sq_sky-requires
-sum_sq_sky-requires c = (c.requires.s_value.sheets_count, c.requires.s_value.used_below, omega arith)
+sum_sq_sky-requires g c =
+    let p = rw (← c.requires.0) at c.requires.1 in
+    (p.0.sheets_count, p.0.used_below, omega arith)
 
 pub returns : goal.returns
-returns c =
-    let left = c.residuals_under_state.ensures in record { chi2 = chi2_is c.requires.s_value c.args.set.now c.residuals_under_state.new.1.1.1.1.1.1.1.1.1.0 _ left c.sum_sq_sky.ensures; left = left }
+returns g c =
+    let p = rw (← c.requires.0) at c.requires.1 in
+    let left = rw (← c.requires.0) at c.residuals_under_state.ensures in
+    record {
+      chi2 = rw (← c.requires.0) (chi2_is p.0 c.args.set.now c.residuals_under_state.new.v _ left c.sum_sq_sky.ensures);
+      left = c.residuals_under_state.ensures;
+    }

@@ -13,4 +13,4 @@ pub copy-requires : goal.copy-requires
 copy-requires c = length-take-le _ _ (omega arith)
 
 pub returns : goal.returns
-returns c = let e = c.copy.ensures in front_back c.copy.new.1.0 _ _ _ (ap length e) e
+returns c = let e = c.copy.ensures in front_back c.copy.new.to _ _ _ (ap length e) e

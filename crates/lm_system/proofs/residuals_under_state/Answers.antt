@@ -1,16 +1,23 @@
 -- `lm_system::residuals_under_state` meets its contract. Assumes nothing.
 use native.Mathlib.Omega.{arith}
+use mathlib.Core.Path.{refl}
 use Rattle.design.proofs.Runs.{seen}
 use Rattle.lm_system.proofs.Laws.{under_set}
 use Rattle.lm_system.proofs.residuals_under_state.Goals as goal
 
 pub predict-requires : goal.predict-requires
-predict-requires c = record { used_value = seen _ c.requires.s_value; seen = (c.requires.s_value.terms, c.requires.s_value.names_count, c.requires.counted) }
+predict-requires g c =
+    let p = rw (← c.requires.0) at c.requires.1 in
+    (refl, (seen _ p.0, p.0.terms, p.0.names_count, p.1))
 
 pub subtract_from_differences-requires : goal.subtract_from_differences-requires
-subtract_from_differences-requires c = (c.requires.s_value.dd_count, c.requires.s_value.used_below, omega arith)
+subtract_from_differences-requires g c =
+    let p = rw (← c.requires.0) at c.requires.1 in
+    (p.0.dd_count, p.0.used_below, omega arith)
 
 pub returns : goal.returns
-returns c =
-    under_set c.requires.s_value c.args.set.now c.predict.new.1.1.1.1.1.1.0 c.subtract_from_differences.new.1.1.1.0 (omega arith)
-    c.predict.ensures c.subtract_from_differences.auto.1.1.1.0 c.subtract_from_differences.ensures
+returns g c =
+    let p = rw (← c.requires.0) at c.requires.1 in
+    rw (← c.requires.0)
+    (under_set p.0 c.args.set.now c.predict.new.v c.subtract_from_differences.new.b (omega arith) c.predict.ensures
+    c.subtract_from_differences.auto.b c.subtract_from_differences.ensures)

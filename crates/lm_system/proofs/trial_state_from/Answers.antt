@@ -16,4 +16,4 @@ returns c =
     let move = c.move_free in
     let e = c.padded-trial.ensures in
     let a = c.args in
-    front_back move.new.1.1.0 _ _ _ (move.auto.1.1.0 ∙ ap length e) (move.ensures ∙ ap (moved a.free.now a.x.now) e)
+    front_back move.new.set _ _ _ (move.auto.set ∙ ap length e) (move.ensures ∙ ap (moved a.free.now a.x.now) e)

@@ -26,7 +26,8 @@ returns c =
     let a = c.args in
     let n = length a.used.now in
     let r : 4 * n ≡ 2 * (2 * n) = omega arith in
-    rw r
-    (weighed_both (sky_rows (sights_at [] a.sheets.now a.used.now)) a.k (2 * n) (2 * (2 * n)) a.v.now c.copy.new.0
-    c.scale_ha_rows.new.1.1.1.0 c.copy-2.new.0 _ (omega arith) (omega arith) c.copy.ensures
-    c.scale_ha_rows.auto.1.1.1.0 c.scale_ha_rows.ensures c.copy-2.ensures c.weigh.ensures)
+    let p =
+    weighed_both (sky_rows (sights_at [] a.sheets.now a.used.now)) a.k (2 * n) (2 * (2 * n)) a.v.now c.copy.new.w
+    c.scale_ha_rows.new.b c.copy-2.new.w _ (omega arith) (omega arith) c.copy.ensures
+    c.scale_ha_rows.auto.b c.scale_ha_rows.ensures c.copy-2.ensures c.weigh.ensures in
+    record { sky = rw r p.0; b = rw r p.1 }
