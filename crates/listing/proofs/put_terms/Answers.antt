@@ -1,7 +1,6 @@
 use native.Mathlib.Nat.{add-sub_cancel_left}
 use native.Mathlib.Omega.{arith}
 use mathlib.Core.Path.{◌≡◌, refl}
-use Rattle.sequence.specs.Sequence.{at}
 use Rattle.listing.specs.Listing.{term_lines}
 use Rattle.listing.proofs.Writes.{wrote_texts_start, wrote_texts_next}
 use Rattle.listing.proofs.put_terms.Invariants.{line_of}

@@ -2,7 +2,7 @@
 use Prim.Native.Nat.{◌+◌, ◌*◌, ◌-◌}
 use native.Mathlib.Nat.{add-sub_cancel_left}
 use native.Mathlib.Omega.{arith}
-use mathlib.Core.Path.{◌≡◌, ap, ◌∙◌}
+use mathlib.Core.Path.{◌≡◌, ap, refl, ◌∙◌}
 use lib.ListN.{length, take, drop}
 use Rattle.limits.specs.Limits.{slot_bytes}
 use Rattle.sequence.specs.Sequence.{part}
@@ -15,7 +15,7 @@ pub list_input-requires : goal.list_input-requires
 list_input-requires c =
     let a = c.args in
     let p = c.requires in
-    let e = ap length p.3.coefficients_are ∙ table-length _ (term_count a.s.now) in record { settings_value = p.0; listing_room_in_bounds = omega (arith, p.1.terms, e) }
+    let e = ap length p.3.coefficients_are ∙ table-length _ (term_count a.s.now) in record { settings_value = refl; listing_room_in_bounds = (p.0, omega (arith, p.1.terms, e)) }
 
 pub returns : goal.returns
 returns c =

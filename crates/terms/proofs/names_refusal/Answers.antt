@@ -1,10 +1,8 @@
 use native.Mathlib.Nat.{add-sub_cancel_left}
-use mathlib.Core.Path.{◌≡◌, ap}
+use mathlib.Core.Path.{ap}
 use Rattle.terms.specs.declared.Reading.{Reading}
-use Rattle.terms.specs.Slots.{slot}
 use Rattle.terms.proofs.First.{first_none, first_step, first_stop, first_end}
 use native.Mathlib.Omega.{arith}
-use Rattle.terms.proofs.names_refusal.Invariants.{numbers}
 use Rattle.terms.proofs.names_refusal.Goals as goal
 
 pub loop-i-init : goal.loop-i-init

@@ -31,9 +31,9 @@ unfolding by_known
 returns c =
     let n = c.args.name.now in
     let no-tx : (eqb (get_or n 0 0) 84 && eqb (get_or n 1 0) 88) ≡ false =
-        elim c.if-name-gt1.branch [
-          then-name-gt1+then-name-eq84+else-name-eq88 w ↦ rw (ne_eqb (get_or n 1 0) 88 w.if-name-eq88.false, and-false)
-          | then-name-gt1+else-name-eq84 w ↦ rw (ne_eqb (get_or n 0 0) 84 w.if-name-eq84.false)
-          | else-name-gt1 w ↦ rw (get_or-eq_default n 0 {n = 1} w.if-name-gt1.false, and-false)
-        ] in
+    elim c.if-name-gt1.branch [
+      | then-name-gt1+then-name-eq84+else-name-eq88 w ↦ rw (ne_eqb (get_or n 1 0) 88 w.if-name-eq88.false, and-false)
+      | then-name-gt1+else-name-eq84 w ↦ rw (ne_eqb (get_or n 0 0) 84 w.if-name-eq84.false)
+      | else-name-gt1 w ↦ rw (get_or-eq_default n 0 {n = 1} w.if-name-gt1.false, and-false)
+    ] in
     rw (no-tx, ne_eqb (get_or n 0 0) 72 c.if-name-eq72.false) c.refuse.ensures
