@@ -93,7 +93,8 @@ module _ (σ : List Float) where
       let y = at σ (get_or left (suc n) 0) in
       let step : (t : Bool) → lt x y ≡ t → lt (at σ (get_or left (cond t (suc n) b) 0)) (at σ (get_or left k 0)) ≡ false =
       λ t. elim t as (λ q. lt x y ≡ q → lt (at σ (get_or left (cond q (suc n) b) 0)) (at σ (get_or left k 0)) ≡ false) [
-        | true ↦ λ e. ⊎_elim (λ q. rw q (not_below_itself y)) (λ l. not_above x y (at σ (get_or left k 0)) e (greatest left n k (omega arith))) (eq-or-lt_of_le h)
+        | true ↦ λ e. ⊎_elim (λ q. rw q (not_below_itself y))
+            (λ l. not_above x y (at σ (get_or left k 0)) e (greatest left n k (omega arith))) (eq-or-lt_of_le h)
         | false ↦ λ e. ⊎_elim (λ q. rw q e) (λ l. greatest left n k (omega arith)) (eq-or-lt_of_le h)
       ] in
       step (lt x y) refl
@@ -137,7 +138,8 @@ module _ (σ : List Float) where
       let i = place_inside left (omega arith) in
       let split : take b left ++ (get_or left b 0 ∷ drop (b + 1) left) ≡ left =
       rw (add-one b, ← drop-cons left b 0 i) (take-append-drop b left) in
-      rw split at (Perm.trans (Perm.cons (get_or left b 0) (permutes n (rest left) (length_rest left n e))) (Perm.symm (perm_middle (take b left) (drop (b + 1) left))))
+      rw split at
+      (Perm.trans (Perm.cons (get_or left b 0) (permutes n (rest left) (length_rest left n e))) (Perm.symm (perm_middle (take b left) (drop (b + 1) left))))
 
   -- the value taken i-th of the columns left
   abbrev value_of : ℕ → List ℕ → ℕ → Float

@@ -29,19 +29,28 @@ abbrev number : Asked → ℕ
 number Pass = 0
 number (No k) = k
 
+abbrev pub sizes_of : FitInputs → Sizes → List Question
+sizes_of l s =
+    sizes_asked (length l.coefficients) (length l.dh) (length l.names) (length l.fixed) (length l.dd) (length l.pier) (length l.sheets) s
+
+abbrev pub codes_of : FitInputs → IterOptions → List Question
+codes_of l o = codes_asked l.pier l.fixed o.max_iter
+
+abbrev pub terms_of : FitInputs → List Question
+terms_of l = terms_asked l.names l.fixed (length l.coefficients) (length l.dh)
+
 module _ (l : FitInputs) (o : IterOptions) (s : Sizes) where
   abbrev sizes : List Question
-  sizes =
-      sizes_asked (length l.coefficients) (length l.dh) (length l.names) (length l.fixed) (length l.dd) (length l.pier) (length l.sheets) s
+  sizes = sizes_of l s
 
   abbrev numbers : List Question
   numbers = numbers_asked l o s
 
   abbrev codes : List Question
-  codes = codes_asked l.pier l.fixed o.max_iter
+  codes = codes_of l o
 
   abbrev terms : List Question
-  terms = terms_asked l.names l.fixed (length l.coefficients) (length l.dh)
+  terms = terms_of l
 
   abbrev pub all : List Question
   all = numbers ++ (codes ++ terms)

@@ -15,7 +15,9 @@ abbrev pub numbers : List Float → ℕ → List ℕ → List Float → List Flo
 numbers u h o inv-s r dof = diagnostic_from dof r (leverage_of h u o inv-s)
 
 abbrev pub invariant-loop-i : goal.invariant-loop-i
-invariant-loop-i l = (l.i ≤ l.n) × (length l.out ≡ length l.initial.out) × (l.s ≡ sqrt (variance l.r l.dof)) × (l.out ≡ diagnostic_numbers l.i (numbers l.u l.h l.o l.inv_s l.r l.dof) ++ drop (3 * l.i) l.initial.out)
+invariant-loop-i l =
+    (l.i ≤ l.n) × (length l.out ≡ length l.initial.out) × (l.s ≡ sqrt (variance l.r l.dof))
+    × (l.out ≡ diagnostic_numbers l.i (numbers l.u l.h l.o l.inv_s l.r l.dof) ++ drop (3 * l.i) l.initial.out)
 
 abbrev pub decreases-loop-i : goal.decreases-loop-i
 decreases-loop-i l = l.n - l.i

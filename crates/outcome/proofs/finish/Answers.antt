@@ -16,11 +16,11 @@ slice_bounds-compute_sigma-end-2 c = front_size _ _ (omega arith)
 
 pub compute_sigma-requires : goal.compute_sigma-requires
 compute_sigma-requires c =
-    let r : Renewed c.args.sigma.now c.fill.new.0 c.args.m = record { room = c.requires.7; kept = c.fill.auto.0 } in
+    let r : Renewed c.args.sigma.now c.fill.new.s c.args.m = record { room = c.requires.7; kept = c.fill.auto.s } in
     (omega (arith, c.requires.1, c.requires.2), rw (front_count r) c.requires.3)
 
 pub overflow_add-c : goal.overflow_add-c
-overflow_add-c c = omega (arith, c.requires.4, c.well_formed.1.1.1.1.1.1.1.1.1.1.0)
+overflow_add-c c = omega (arith, c.requires.4, c.well_formed)
 
 pub slice_bounds-order-end : goal.slice_bounds-order-end
 slice_bounds-order-end c = order_long (length c.args.free.now) c.args.solved.order c.requires.6
@@ -48,4 +48,4 @@ returns c =
     c.divisor-dof.ensures.value c.variance-s2.ensures c.fill.ensures c.compute_sigma.ensures in
     let numbers = diagnostics_given a.w.now a.diagnostics.now _ _ _ (2 * n) (2 * n) (8 * n) (length a.free.now * h) h n _ _
     c.degrees-row_dof.ensures.value c.compute_diagnostics.ensures in
-    (refl, (sigmas, (numbers, c.fill-2.ensures)))
+    record { answer = refl; sigmas = sigmas; stars = numbers; cleared = c.fill-2.ensures }

@@ -13,7 +13,9 @@ abbrev pub turn : List ℕ → Float → List Float → ℕ → List Float → L
 turn free s2 cov i t = set t (get_or free i 0) (sigma_at s2 cov i)
 
 abbrev pub invariant-loop-i : goal.invariant-loop-i
-invariant-loop-i l = (l.i-end ≡ length l.free) × (l.i ≤ l.i-end) × (length l.sigma ≡ length l.initial.sigma) × (l.sigma ≡ each l.i 0 (turn l.free l.s2 l.cov_diag) l.initial.sigma)
+invariant-loop-i l =
+    (l.i-end ≡ length l.free) × (l.i ≤ l.i-end) × (length l.sigma ≡ length l.initial.sigma)
+    × (l.sigma ≡ each l.i 0 (turn l.free l.s2 l.cov_diag) l.initial.sigma)
 
 abbrev pub decreases-loop-i : goal.decreases-loop-i
 decreases-loop-i l = l.i-end - l.i

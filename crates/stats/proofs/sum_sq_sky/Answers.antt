@@ -10,15 +10,12 @@ use Rattle.design.specs.Design.{sheet_at, sights_at, cos_dec, sky_rows}
 use Rattle.design.proofs.Stars.{sky_hour, sky_dec, stars_count}
 use Rattle.stats.specs.Stats.{sky_square, sum_sq_sky}
 use native.Mathlib.Omega.{arith}
+use Rattle.stats.proofs.sum_sq_sky.Invariants.{term}
 use Rattle.stats.proofs.sum_sq_sky.Goals as goal
 
 module _ (sheets : List Float) (used : List ℕ) (r : List Float) where
-  -- the term of star i
-  abbrev term : ℕ → Float
-  term = sky_square (sky_rows (sights_at [] sheets used) r)
-
   term-at : (i : ℕ) (c : Float) → length r ≡ 2 * length used → i < length used → c ≡ cos_dec (sheet_at sheets (get_or used i 0))
-      → (at r (2 * i) ⊗ c) ⊗ (at r (2 * i) ⊗ c) ⊕ at r (2 * i + 1) ⊗ at r (2 * i + 1) ≡ term i
+      → (at r (2 * i) ⊗ c) ⊗ (at r (2 * i) ⊗ c) ⊕ at r (2 * i + 1) ⊗ at r (2 * i + 1) ≡ term sheets used r i
   term-at i c h g e = rw (e, sky_hour [] [] [] sheets used r i h g, sky_dec [] [] [] sheets used r i h g) refl
 
 pub loop-i-init : goal.loop-i-init

@@ -1,9 +1,17 @@
 -- `stats::sum_sq_sky` meets its contract. The invariant: the sum is that of the first i stars. Assumes nothing.
-use Prim.Native.Nat.{◌-◌, ◌≤◌}
+use Prim.Native.Nat.{ℕ, ◌-◌, ◌≤◌}
 use mathlib.Core.Path.{◌≡◌}
+use mathlib.Core.List.{List, []}
 use lib.ListN.{length}
+use lib.Ieee.{Float}
 use Rattle.sequence.specs.Sequence.{sum_to}
+use Rattle.design.specs.Design.{sights_at, sky_rows}
+use Rattle.stats.specs.Stats.{sky_square}
 use Rattle.stats.proofs.sum_sq_sky.Given as goal
+
+-- the term of star i
+abbrev pub term : List Float → List ℕ → List Float → ℕ → Float
+term sheets used r = sky_square (sky_rows (sights_at [] sheets used) r)
 
 abbrev pub invariant-loop-i : goal.invariant-loop-i
 invariant-loop-i l = (l.i-end ≡ length l.used) × (l.i ≤ l.i-end) × (l.sum ≡ sum_to l.i (term l.sheets l.used l.r))

@@ -1,7 +1,7 @@
 use mathlib.Core.Path.{refl}
-use mathlib.Core.Logic.{⊎_elim}
 use native.Mathlib.Omega.{arith}
 use Rattle.design.proofs.Indices.{start, listed, passed, done}
+use Rattle.validate.proofs.collect_indices.Goals.{then-flags-i-eq0, else-flags-i-eq0}
 use Rattle.validate.proofs.collect_indices.Goals as goal
 
 pub loop-i-init : goal.loop-i-init
@@ -15,13 +15,15 @@ loop-i-preserved c =
     let d = a.out.now in (
       refl,
       omega arith,
-      ⊎_elim (λ w. rw (w.1, w.2) (listed f d u.i u.k u.out (omega arith) (omega arith) w.0.taken u.invariant.2))
-          (λ w. rw (w.1, w.2) (passed f d u.i u.k u.out (omega arith) w.0.left u.invariant.2))
-          c.if-flags-i-eq0.branch,
+      elim c.if-flags-i-eq0.branch [
+        | then-flags-i-eq0 w ↦ rw (w.out-is, w.k-is) (listed f d u.i u.k u.out (omega arith) (omega arith) w.if-flags-i-eq0.true u.invariant.2)
+        | else-flags-i-eq0 w ↦ rw (w.out-is, w.k-is) (passed f d u.i u.k u.out (omega arith) w.if-flags-i-eq0.false u.invariant.2)
+      ],
     )
 
 pub returns : goal.returns
 returns c =
     let u = c.loop-i in
     let a = c.args in
-    done a.flags.now a.out.now u.i u.k u.out (omega arith) u.invariant.2
+    let e = done a.flags.now a.out.now u.i u.k u.out (omega arith) u.invariant.2 in
+    record { count = e.0; listed = e.1 }

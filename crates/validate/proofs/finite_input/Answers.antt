@@ -1,20 +1,23 @@
 -- `validate::finite_input` meets its contract. Assumes nothing.
+use mathlib.Core.Path.{sym}
 use Rattle.sequence.proofs.Tests.{was_yes, was_no}
 use Rattle.validate.specs.Questions.{finite_input}
 use Rattle.validate.proofs.finite_input.Goals as goal
 
 pub returns-then-not-all_finite : goal.returns-then-not-all_finite
 unfolding finite_input
-returns-then-not-all_finite c = rw (was_no c.all_finite.ensures c.if-not-all_finite.true-raw)
+returns-then-not-all_finite g c = rw (← c.requires, was_no c.all_finite.ensures c.if-not-all_finite.true-raw)
 
 pub returns-then-not-all_finite-2 : goal.returns-then-not-all_finite-2
 unfolding finite_input
-returns-then-not-all_finite-2 c = rw (was_yes c.all_finite.ensures c.if-not-all_finite.false-raw, was_no c.all_finite-2.ensures c.if-not-all_finite-2.true-raw)
+returns-then-not-all_finite-2 g c =
+    rw (← c.requires, was_yes c.all_finite.ensures c.if-not-all_finite.false-raw, was_no c.all_finite-2.ensures c.if-not-all_finite-2.true-raw)
 
 pub returns-then-not-all_finite-3 : goal.returns-then-not-all_finite-3
 unfolding finite_input
-returns-then-not-all_finite-3 c =
+returns-then-not-all_finite-3 g c =
     rw (
+      ← c.requires,
       was_yes c.all_finite.ensures c.if-not-all_finite.false-raw,
       was_yes c.all_finite-2.ensures c.if-not-all_finite-2.false-raw,
       was_no c.all_finite-3.ensures c.if-not-all_finite-3.true-raw,
@@ -22,8 +25,9 @@ returns-then-not-all_finite-3 c =
 
 pub returns-then-not-all_finite-4 : goal.returns-then-not-all_finite-4
 unfolding finite_input
-returns-then-not-all_finite-4 c =
+returns-then-not-all_finite-4 g c =
     rw (
+      ← c.requires,
       was_yes c.all_finite.ensures c.if-not-all_finite.false-raw,
       was_yes c.all_finite-2.ensures c.if-not-all_finite-2.false-raw,
       was_yes c.all_finite-3.ensures c.if-not-all_finite-3.false-raw,
@@ -32,8 +36,9 @@ returns-then-not-all_finite-4 c =
 
 pub returns : goal.returns
 unfolding finite_input
-returns c =
+returns g c =
     rw (
+      ← c.requires,
       was_yes c.all_finite.ensures c.if-not-all_finite.false-raw,
       was_yes c.all_finite-2.ensures c.if-not-all_finite-2.false-raw,
       was_yes c.all_finite-3.ensures c.if-not-all_finite-3.false-raw,

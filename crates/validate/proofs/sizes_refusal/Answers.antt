@@ -10,7 +10,8 @@ pub counts_match-requires : goal.counts_match-requires
 counts_match-requires c = limits_facts _ _ (was_yes c.within_limits.ensures c.if-not-within_limits.false-raw)
 
 pub returns-then-not-counts_match : goal.returns-then-not-counts_match
-returns-then-not-counts_match c = rw (was_yes c.within_limits.ensures c.if-not-within_limits.false-raw, was_no c.counts_match.ensures c.if-not-counts_match.true-raw)
+returns-then-not-counts_match c =
+    rw (was_yes c.within_limits.ensures c.if-not-within_limits.false-raw, was_no c.counts_match.ensures c.if-not-counts_match.true-raw)
 
 pub has_room-requires : goal.has_room-requires
 has_room-requires c = limits_facts _ _ (was_yes c.within_limits.ensures c.if-not-within_limits.false-raw)
