@@ -16,7 +16,8 @@ use Rattle.harmonic.specs.Table.{ascii}
 use Rattle.harmonic.specs.Harmonic.{array_of, parse_harmonic}
 use Rattle.harmonic.specs.declared.HarmonicRead.{HarmonicRead}
 use Rattle.equatorial.specs.declared.EquatorialTerm.TheVariants.{TXN}
-use Rattle.terms.specs.Names.{same, accepted, refused, capital, padded, name_of, well_formed, read_term, by_known, find, fixed_names, numbered, read_harmonic, harmonic_of, unsigned, digits_from, short_decimal}
+use Rattle.terms.specs.Names.{same, accepted, refused, capital, padded, name_of, well_formed, read_term, by_known, find, fixed_names}
+use Rattle.terms.specs.Names.{numbered, read_harmonic, harmonic_of, unsigned, digits_from, short_decimal}
 use Rattle.terms.specs.declared.Reading.{Reading}
 use Rattle.terms.specs.declared.TermKind.{TermKind}
 use Rattle.terms.specs.declared.names.Known.{Known}
@@ -102,8 +103,10 @@ module _ (s : List ℕ) (sixteen : length s ≡ 16) where
       let r : List ℕ = replicate (16 - length n) 0 in
       let name : name_of (n ++ r) ≡ n = name_again s (16 - length n) in
       let front = left_of (ltb 0 (length (name_of s)) && every (λ b. ltb b 128) (name_of s)) (every (λ b. eqb b 0) (drop (length (name_of s)) s)) w in
-      let some_bytes : ltb 0 (length n) ≡ true = rw (length-map (name_of s) capital) (left_of (ltb 0 (length (name_of s))) (every (λ b. ltb b 128) (name_of s)) front) in
-      let asciis : every (λ b. ltb b 128) n ≡ true = capitals_ascii (name_of s) (right_of (ltb 0 (length (name_of s))) (every (λ b. ltb b 128) (name_of s)) front) in
+      let some_bytes : ltb 0 (length n) ≡ true =
+      rw (length-map (name_of s) capital) (left_of (ltb 0 (length (name_of s))) (every (λ b. ltb b 128) (name_of s)) front) in
+      let asciis : every (λ b. ltb b 128) n ≡ true =
+      capitals_ascii (name_of s) (right_of (ltb 0 (length (name_of s))) (every (λ b. ltb b 128) (name_of s)) front) in
       let behind : every (λ b. eqb b 0) (drop (length n) (n ++ r)) ≡ true = ap (every (λ b. eqb b 0)) (drop_at n r (length n) refl) ∙ zeros (16 - length n) in
       rw (name, eq-eqb (length (n ++ r)) 16 padded-length, some_bytes, asciis, behind, eq-eqb (length s) 16 sixteen, w, capitals_twice (name_of s))
 
@@ -171,7 +174,8 @@ module _ (P : List ℕ → Type 0) (n : List ℕ) (same_name : P (padded n)) (nu
   of_number : (o : Option ℕ) → (numbered o).refusal ≡ 0 → P (numbered o).term.name
   of_number none e = absurd (omega arith)
   of_number (some v) e =
-      either (leb 1 v && leb v 255) (accepted (TermKind.Equatorial (TXN v)) (ascii "TX" ++ short_decimal v) (array_of [])) (refused 9) e (λ q z. number-name v q) (λ z. absurd (omega arith))
+      either (leb 1 v && leb v 255) (accepted (TermKind.Equatorial (TXN v)) (ascii "TX" ++ short_decimal v) (array_of [])) (refused 9) e
+      (λ q z. number-name v q) (λ z. absurd (omega arith))
 
   of_harmonic : (h : HarmonicRead) → (harmonic_of n h).refusal ≡ 0 → P (harmonic_of n h).term.name
   of_harmonic h e = either h.ok (accepted (TermKind.Harmonic h.result) n h.components) (refused 10) e (λ q z. same_name) (λ z. absurd (omega arith))
