@@ -2,7 +2,7 @@ use native.Mathlib.Omega.{arith}
 use mathlib.Core.Path.{◌≡◌, refl, ap, ◌∙◌}
 use lib.ListN.{length-set}
 use Rattle.sequence.proofs.Concat.{over_none, over_end}
-use Rattle.stats.specs.Stats.{sqrt, variance}
+use Rattle.stats.specs.Stats.{sqrt}
 use Rattle.outcome.proofs.Diagnostics.{diagnostic_numbers_next}
 use Rattle.outcome.proofs.compute_diagnostics.Invariants.{numbers}
 use Rattle.outcome.proofs.compute_diagnostics.Goals as goal

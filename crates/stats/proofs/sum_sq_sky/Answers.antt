@@ -6,9 +6,9 @@ use lib.Ieee.{Float}
 use Rattle.float.specs.Float.{◌⊕◌, ◌⊗◌}
 use Rattle.sequence.specs.Sequence.{at}
 use Rattle.sequence.proofs.Sums.{sum_none, added, sum_end}
-use Rattle.design.specs.Design.{sheet_at, sights_at, cos_dec, sky_rows}
+use Rattle.design.specs.Design.{sheet_at, cos_dec}
 use Rattle.design.proofs.Stars.{sky_hour, sky_dec, stars_count}
-use Rattle.stats.specs.Stats.{sky_square, sum_sq_sky}
+use Rattle.stats.specs.Stats.{sum_sq_sky}
 use native.Mathlib.Omega.{arith}
 use Rattle.stats.proofs.sum_sq_sky.Invariants.{term}
 use Rattle.stats.proofs.sum_sq_sky.Goals as goal

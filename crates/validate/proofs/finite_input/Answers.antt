@@ -1,5 +1,4 @@
 -- `validate::finite_input` meets its contract. Assumes nothing.
-use mathlib.Core.Path.{sym}
 use Rattle.sequence.proofs.Tests.{was_yes, was_no}
 use Rattle.validate.specs.Questions.{finite_input}
 use Rattle.validate.proofs.finite_input.Goals as goal

@@ -1,11 +1,7 @@
 -- `validate::numbers_refusal` meets its contract. Assumes nothing.
-use mathlib.Core.Path.{◌≡◌, ◌∙◌, ap}
-use Prim.Native.Nat.{ℕ}
+use mathlib.Core.Path.{◌∙◌, ap}
 use Rattle.sequence.proofs.Tests.{was_yes, was_no}
 use Rattle.terms.specs.Questions.{no_of}
-use Rattle.solver.specs.Call.{FitInputs}
-use Rattle.solver.specs.declared.IterOptions.{IterOptions}
-use Rattle.solver.specs.declared.Sizes.{Sizes}
 use Rattle.validate.proofs.InOrder.{no_size, sizes_pass, sizes_of}
 use Rattle.validate.proofs.numbers_refusal.Goals as goal
 

@@ -1,9 +1,7 @@
 -- `validate::questions` meets its contract. Assumes nothing.
 use native.Mathlib.Omega.{arith}
-use mathlib.Core.Path.{◌≡◌, sym, ◌∙◌, ap}
+use mathlib.Core.Path.{sym, ◌∙◌, ap}
 use Rattle.terms.specs.Questions.{no_of}
-use Rattle.solver.specs.Call.{FitInputs}
-use Rattle.validate.specs.Questions.{codes_asked, terms_asked}
 use Rattle.validate.proofs.InOrder.{codes_of, terms_of, sized, no_number, no_code, no_term, passes}
 use Rattle.validate.proofs.questions.Goals as goal
 
