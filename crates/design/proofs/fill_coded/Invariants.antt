@@ -9,7 +9,9 @@ use Rattle.design.proofs.Rows.{Pairing}
 use Rattle.design.proofs.fill_coded.Given as goal
 
 abbrev pub invariant-loop-r : goal.invariant-loop-r
-invariant-loop-r g l = (l.r-end ≡ length l.used) × Pairing (λ x. equatorial_jacobian (kind_of l.code l.n) (point_at l.s x)) (star_at [] [] l.pier l.sheets) l.used l.initial.col l.r l.col
+invariant-loop-r g l =
+    (l.r-end ≡ length l.used)
+    × Pairing (λ x. equatorial_jacobian (kind_of l.code l.n) (point_at l.s x)) (star_at [] [] l.pier l.sheets) l.used l.initial.col l.r l.col
 
 abbrev pub decreases-loop-r : goal.decreases-loop-r
 decreases-loop-r g l = l.r-end - l.r

@@ -21,7 +21,8 @@ abbrev pub term : List ℕ → List ℕ → ℕ → Term
 term names free i = term_at names (get_or free i 0)
 
 abbrev pub invariant-loop-i : goal.invariant-loop-i
-invariant-loop-i g l = Turned (λ y. false) plus (at l.x) (col l.k l.initial.v l.s g.ss (length l.used)) (term l.names l.free) (2 * length l.used) l.i-end l.initial.v l.v l.i
+invariant-loop-i g l =
+    Turned (λ y. false) plus (at l.x) (col l.k l.initial.v l.s g.ss (length l.used)) (term l.names l.free) (2 * length l.used) l.i-end l.initial.v l.v l.i
     × Only 0 (4 * length l.used) l.initial.v l.v × (length l.v ≡ 8 * length l.used)
 
 abbrev pub decreases-loop-i : goal.decreases-loop-i

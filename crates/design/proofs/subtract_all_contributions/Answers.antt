@@ -18,7 +18,8 @@ loop-j-preserved g c =
     let u = c.loop-j in
     elim c.if-c.branch [
       | then-c w ↦
-          rw w.v-is (turned_next u.invariant _ _ (omega arith) (not-true _ w.if-c.true) w.subtract_sky_column.auto.v w.term_at.ensures w.subtract_sky_column.ensures)
+          rw w.v-is (turned_next u.invariant _ _ (omega arith) (not-true _ w.if-c.true)
+          w.subtract_sky_column.auto.v w.term_at.ensures w.subtract_sky_column.ensures)
       | else-c w ↦ rw w.v-is (turned_still u.invariant (omega arith) (not-false _ w.if-c.false))
     ]
 

@@ -9,7 +9,9 @@ use Rattle.design.specs.Design.{stars_at, differences}
 use Rattle.design.proofs.subtract_from_differences.Given as goal
 
 abbrev pub invariant-loop-r : goal.invariant-loop-r
-invariant-loop-r l = (l.r-end ≡ length l.used) × (l.r ≤ l.r-end) × Partway l.initial.b (zip_with (sub binary64) (differences (stars_at l.dh l.dd [] [] l.used)) l.initial.b) (2 * l.r) l.b
+invariant-loop-r l =
+    (l.r-end ≡ length l.used) × (l.r ≤ l.r-end)
+    × Partway l.initial.b (zip_with (sub binary64) (differences (stars_at l.dh l.dd [] [] l.used)) l.initial.b) (2 * l.r) l.b
 
 abbrev pub decreases-loop-r : goal.decreases-loop-r
 decreases-loop-r l = l.r-end - l.r

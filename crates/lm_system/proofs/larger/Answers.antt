@@ -10,7 +10,9 @@ returns-then-not-rotational c = rw (← c.rotational.ensures, not-true c.rotatio
 
 pub returns-then-step-most : goal.returns-then-step-most
 unfolding larger
-returns-then-step-most c = rw (← c.rotational.ensures, not-false c.rotational.result c.if-not-rotational.false-raw, ← c.abs-step.ensures, c.if-step-most.true) refl
+returns-then-step-most c =
+    rw
+    (← c.rotational.ensures, not-false c.rotational.result c.if-not-rotational.false-raw, ← c.abs-step.ensures, c.if-step-most.true) refl
 
 pub returns : goal.returns
 unfolding larger

@@ -2,7 +2,7 @@ use Prim.Native.Nat.{ℕ, ◌<◌}
 use native.Mathlib.Omega.{arith}
 use mathlib.Core.Path.{◌≡◌, refl}
 use mathlib.Core.List.{List}
-use lib.ListN.{length, get_or, set, length-set}
+use lib.ListN.{length, get_or, length-set}
 use Rattle.sequence.proofs.Fills.{each_none, each_next, each_end}
 use Rattle.design.specs.Counted.{Below}
 use Rattle.lm_system.specs.System.{moved}
