@@ -1,6 +1,8 @@
 // The solver's own calls in C for the benchmark, which ask what their callees ask. They begin with `bench_`: `pointing_` is the interface's alone.
 #![tactic(auto)]
 
+#![tactic(auto)]
+
 ghost use Rattle.std.specs.Prelude.{◌≡◌, ◌+◌, ◌*◌, ◌≤◌, ◌<◌, length};
 ghost use Rattle.limits.specs.Limits.{max_terms};
 ghost use Rattle.sequence.specs.Sequence.{part, Only};
@@ -12,7 +14,7 @@ use limits::MAX_TERMS;
 #[unsafe(no_mangle)]
 pub extern "C" fn bench_factorise(w: &mut [f64], h: usize, rows: usize, m: usize) -> jacobi::Sweeps
     requires { (rows + m ≤ h) × (m * h ≤ length w.old) }
-    ensures { record { w = w.exit.now; made = result.made; settled = result.settled } ≡ factorised h rows m w.entry.now }
+    ensures { record { w = w.new; made = result.made; settled = result.settled } ≡ factorised h rows m w.old }
 {
     jacobi::factorise(w, h, rows, m)
 }

@@ -1,20 +1,26 @@
 // What the programs that replay the oracle's answers share: records from standard input, and lines of counts.
 #![tactic(auto)]
 
-ghost use Rattle.std.specs.Prelude.{◌≤◌};
+#![tactic(auto)]
+
+ghost use Rattle.std.specs.Prelude.{◌≡◌, ◌≤◌, length};
+
+use std::io::{Read, Write};
+use std::rt::{Stdin, Stdout};
 
 // Stands behind the last record. No record begins with it.
 const MARK: u8 = 255;
 
-// Fills buf from standard input; false where the input ends before.
-pub fn next(buf: &mut [u8]) -> bool {
-    io::read_full(libc::STDIN_FILENO, buf) == buf.len()
+// Fills buf from standard input; false where the input ends before, or a read fails.
+pub fn next(input: Stdin, buf: &mut [u8]) -> bool {
+    let mut input = input;
+    input.read_exact(buf).is_ok()
 }
 
 // One byte of standard input; 0 where it has ended.
-pub fn byte() -> u8 {
+pub fn byte(input: Stdin) -> u8 {
     let mut b = [0u8; 1];
-    next(&mut b);
+    next(input, &mut b);
     b[0]
 }
 
@@ -27,13 +33,13 @@ pub struct Ahead {
     pub whole: bool,
 }
 
-pub fn head() -> Ahead {
+pub fn head(input: Stdin) -> Ahead {
     let mut b = [0u8; 1];
-    let given = next(&mut b);
+    let given = next(input, &mut b);
     let first = b[0];
     let more = given && first != MARK;
     let mut behind = [0u8; 1];
-    let whole = given && !more && !next(&mut behind);
+    let whole = given && !more && !next(input, &mut behind);
     Ahead { more, first, whole }
 }
 
@@ -46,47 +52,54 @@ pub fn ended(different: u64, end: Ahead) -> u64 {
     }
 }
 
+// 65,536 zeros, for a loop that reads much.
+pub fn large_buffer() -> [u8; 65536]
+    ensures { 65536 ≡ length result }
+{
+    [0; 65536]
+}
+
 // Reads on to the end, where the input holds what the oracle doesn't write: no mark is found behind that.
-pub fn abandon() {
-    let mut rest = io::large_buffer();
+pub fn abandon(input: Stdin) {
+    let mut rest = large_buffer();
     let mut turns = u64::MAX;
-    while turns > 0 && next(&mut rest) {
+    while turns > 0 && next(input, &mut rest) {
         turns -= 1;
     }
 }
 
 // A number of two bytes up to a limit; where it is above, the input is abandoned.
-pub fn small(limit: usize) -> usize
+pub fn small(input: Stdin, limit: usize) -> usize
     ensures { result ≤ limit }
 {
     let mut b = [0u8; 2];
-    next(&mut b);
+    next(input, &mut b);
     let x = little_endian::u16_at(&b, 0) as usize;
     if x <= limit {
         return x;
     }
-    abandon();
+    abandon(input);
     limit
 }
 
 // The same of four bytes.
-pub fn large(limit: usize) -> usize
+pub fn large(input: Stdin, limit: usize) -> usize
     ensures { result ≤ limit }
 {
-    let low = small(65535);
-    let high = small(65535);
+    let low = small(input, 65535);
+    let high = small(input, 65535);
     let x = low + 65536 * high;
     if x <= limit {
         return x;
     }
-    abandon();
+    abandon(input);
     limit
 }
 
 // A double of standard input.
-pub fn double() -> f64 {
+pub fn double(input: Stdin) -> f64 {
     let mut b = [0u8; 8];
-    next(&mut b);
+    next(input, &mut b);
     little_endian::f64_at(&b, 0)
 }
 
@@ -96,13 +109,13 @@ pub fn same_bits(x: f64, y: f64) -> bool {
 }
 
 // Whether x is the next double of standard input.
-pub fn same_double(x: f64) -> bool {
-    same_bits(x, double())
+pub fn same_double(input: Stdin, x: f64) -> bool {
+    same_bits(x, double(input))
 }
 
-pub fn read_doubles(s: &mut [f64]) {
+pub fn read_doubles(input: Stdin, s: &mut [f64]) {
     for i in 0..s.len() {
-        s[i] = double();
+        s[i] = double(input);
     }
 }
 
@@ -114,8 +127,8 @@ pub struct Held {
 }
 
 // Whether x is the oracle's next number.
-pub fn hold(held: Held, x: f64) -> Held {
-    let same = same_double(x);
+pub fn hold(input: Stdin, held: Held, x: f64) -> Held {
+    let same = same_double(input, x);
     let number = x == x;
     Held {
         same: held.same && same,
@@ -124,10 +137,10 @@ pub fn hold(held: Held, x: f64) -> Held {
 }
 
 // Whether the numbers of s are the oracle's next ones.
-pub fn hold_all(held: Held, s: &[f64]) -> Held {
+pub fn hold_all(input: Stdin, held: Held, s: &[f64]) -> Held {
     let mut held = held;
     for i in 0..s.len() {
-        held = hold(held, s[i]);
+        held = hold(input, held, s[i]);
     }
     held
 }
@@ -139,30 +152,32 @@ pub fn flag_code(flag: bool) -> u8 {
 
 // One more: a count of records never wraps.
 pub fn more(n: u64) -> u64 {
-    std::num::wrapping_add_u64(n, 1)
+    n.wrapping_add(1)
 }
 
-pub fn write(text: &[u8]) {
-    io::write_all(libc::STDOUT_FILENO, text);
+// Writes text to standard output. Where a write fails, the rest is left out.
+pub fn write(output: Stdout, text: &[u8]) {
+    let mut output = output;
+    let _ = output.write_all(text);
 }
 
 // A space and a number.
-pub fn number(n: u64) {
-    write(b" ");
-    io::print_decimal(libc::STDOUT_FILENO, n);
+pub fn number(output: Stdout, n: u64) {
+    let mut output = output;
+    let _ = write!(output, " {n}");
 }
 
 // A label and a number on a line.
-pub fn line(label: &[u8], n: u64) {
-    write(label);
-    number(n);
-    write(b"\n");
+pub fn line(output: Stdout, label: &[u8], n: u64) {
+    write(output, label);
+    number(output, n);
+    write(output, b"\n");
 }
 
 // A question's number and how often it refused, on a line.
-pub fn refused(question: u64, n: u64) {
-    write(b"refused");
-    number(question);
-    number(n);
-    write(b"\n");
+pub fn refused(output: Stdout, question: u64, n: u64) {
+    write(output, b"refused");
+    number(output, question);
+    number(output, n);
+    write(output, b"\n");
 }

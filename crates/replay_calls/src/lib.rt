@@ -2,11 +2,14 @@
 // has the format); whole answers, the buffers' tails, refused buffers and the cleared scratch are held against it.
 #![tactic(auto)]
 
+#![tactic(auto)]
+
 ghost use Rattle.std.specs.Prelude.{◌≡◌, ◌+◌, ◌*◌, ◌<◌, ◌≤◌, length};
 ghost use Rattle.replay_calls.specs.Room.{Lent, InRoom};
 
 use replay::{Held, hold, hold_all, read_doubles};
 use solver::{Fit, FitResult, IterOptions, Settings, SigmaBy};
+use std::rt::{Stdin, Stdout};
 
 #[derive(Clone, Copy)]
 struct Tally {
@@ -58,21 +61,21 @@ const ROBUST: u8 = 3;
 const BY_ROWS: u8 = 1;
 
 // The numbers of a call's head, after its mode.
-fn read_sizes() -> Sizes
+fn read_sizes(input: Stdin) -> Sizes
     ensures { InRoom result }
 {
-    let m = replay::small(40);
-    let n = replay::small(1100);
-    let names = replay::small(700);
-    let fixed = replay::small(64);
-    let dd = replay::small(1200);
-    let pier = replay::small(1200);
-    let sheets = replay::large(41000);
-    let coefficients = replay::small(64);
-    let change = replay::small(64);
-    let sigma = replay::small(64);
-    let diagnostics = replay::small(3400);
-    let scratch = replay::large(150000);
+    let m = replay::small(input, 40);
+    let n = replay::small(input, 1100);
+    let names = replay::small(input, 700);
+    let fixed = replay::small(input, 64);
+    let dd = replay::small(input, 1200);
+    let pier = replay::small(input, 1200);
+    let sheets = replay::large(input, 41000);
+    let coefficients = replay::small(input, 64);
+    let change = replay::small(input, 64);
+    let sigma = replay::small(input, 64);
+    let diagnostics = replay::small(input, 3400);
+    let scratch = replay::large(input, 150000);
     Sizes {
         m,
         n,
@@ -100,11 +103,11 @@ fn copy_sheet(pool: &[f64], k: usize, s: &mut [f64])
 }
 
 // So many sheets one after the other, each by its place in the pool.
-fn read_sheets(pool: &[f64], sheets: &mut [f64], count: usize)
+fn read_sheets(input: Stdin, pool: &[f64], sheets: &mut [f64], count: usize)
     requires { (37 * 400 ≤ length pool.now) × (37 * count ≤ length sheets.old) }
 {
     for i in 0..count {
-        let k = replay::small(399);
+        let k = replay::small(input, 399);
         let a = 37 * i;
         copy_sheet(pool, k, &mut sheets[a..a + 37]);
     }
@@ -124,14 +127,14 @@ fn all_are(s: &[f64], x: f64) -> bool {
 const BEFORE: f64 = 7.25;
 
 // A buffer after an accepted fit: n numbers of the oracle's, and the rest as it was.
-fn hold_buffer(held: Held, s: &[f64], n: usize) -> Held {
+fn hold_buffer(input: Stdin, held: Held, s: &[f64], n: usize) -> Held {
     if s.len() < n {
         return Held {
             same: false,
             numbers: held.numbers,
         };
     }
-    let front = hold_all(held, &s[..n]);
+    let front = hold_all(input, held, &s[..n]);
     let kept = all_are(&s[n..], BEFORE);
     Held {
         same: front.same && kept,
@@ -150,22 +153,22 @@ fn cleared(s: &[f64], n: usize) -> bool {
 }
 
 // The record of an accepted fit.
-fn hold_result(held: Held, r: FitResult) -> Held {
+fn hold_result(input: Stdin, held: Held, r: FitResult) -> Held {
     let rank_info = r.rank_info;
     let iter_report = r.iter_report;
-    let mut held = hold(held, r.sky_rms);
-    held = hold(held, r.popn_sd);
-    let n_free = little_endian::size(replay::byte());
-    let rank = little_endian::size(replay::byte());
-    held = hold(held, rank_info.sigma_max);
-    held = hold(held, rank_info.sigma_min);
-    held = hold(held, rank_info.tol);
-    let iterations = replay::small(65535);
-    let converged = replay::byte();
-    held = hold(held, iter_report.final_lambda);
-    held = hold(held, iter_report.final_step_norm);
-    let sweeps = little_endian::size(replay::byte());
-    let settled = replay::byte();
+    let mut held = hold(input, held, r.sky_rms);
+    held = hold(input, held, r.popn_sd);
+    let n_free = little_endian::size(replay::byte(input));
+    let rank = little_endian::size(replay::byte(input));
+    held = hold(input, held, rank_info.sigma_max);
+    held = hold(input, held, rank_info.sigma_min);
+    held = hold(input, held, rank_info.tol);
+    let iterations = replay::small(input, 65535);
+    let converged = replay::byte(input);
+    held = hold(input, held, iter_report.final_lambda);
+    held = hold(input, held, iter_report.final_step_norm);
+    let sweeps = little_endian::size(replay::byte(input));
+    let settled = replay::byte(input);
     let counts = n_free == rank_info.n_free && rank == rank_info.rank;
     let loops = iterations == iter_report.iterations
         && converged == replay::flag_code(iter_report.converged);
@@ -177,38 +180,38 @@ fn hold_result(held: Held, r: FitResult) -> Held {
 }
 
 // The next n bytes of standard input, from a on.
-fn read_bytes(bytes: &mut [u8], a: usize, n: usize)
+fn read_bytes(input: Stdin, bytes: &mut [u8], a: usize, n: usize)
     requires { a + n ≤ length bytes.old }
 {
-    replay::next(&mut bytes[a..a + n]);
+    replay::next(input, &mut bytes[a..a + n]);
 }
 
 // The next n doubles of standard input, from a on.
-fn read_numbers(numbers: &mut [f64], a: usize, n: usize)
+fn read_numbers(input: Stdin, numbers: &mut [f64], a: usize, n: usize)
     requires { a + n ≤ length numbers.old }
 {
-    read_doubles(&mut numbers[a..a + n]);
+    read_doubles(input, &mut numbers[a..a + n]);
 }
 
 // The lent sheets, from 2,560 on.
-fn read_all_sheets(pool: &[f64], numbers: &mut [f64], lent: usize)
+fn read_all_sheets(input: Stdin, pool: &[f64], numbers: &mut [f64], lent: usize)
     requires { (lent ≤ 41000) × (37 * 400 ≤ length pool.now) × (43650 ≤ length numbers.old) }
 {
-    read_sheets(pool, &mut numbers[2560..], (lent + 36) / 37);
+    read_sheets(input, pool, &mut numbers[2560..], (lent + 36) / 37);
 }
 
 // The call's slices lie in two arrays: bytes (names from 0, flags from 1,024, pier codes from 2,048) and numbers (coefficients from 0,
 // hour-angle differences from 64, declination differences from 1,280, sheets from 2,560).
-fn read_input(s: Sizes, pool: &[f64], bytes: &mut [u8], numbers: &mut [f64])
+fn read_input(input: Stdin, s: Sizes, pool: &[f64], bytes: &mut [u8], numbers: &mut [f64])
     requires { Lent s × (37 * 400 ≤ length pool.now) × (4096 ≤ length bytes.old) × (43650 ≤ length numbers.old) }
 {
-    read_bytes(bytes, 0, s.names);
-    read_bytes(bytes, 1024, s.fixed);
-    read_numbers(numbers, 0, s.m);
-    read_numbers(numbers, 64, s.n);
-    read_numbers(numbers, 1280, s.dd);
-    read_bytes(bytes, 2048, s.pier);
-    read_all_sheets(pool, numbers, s.sheets);
+    read_bytes(input, bytes, 0, s.names);
+    read_bytes(input, bytes, 1024, s.fixed);
+    read_numbers(input, numbers, 0, s.m);
+    read_numbers(input, numbers, 64, s.n);
+    read_numbers(input, numbers, 1280, s.dd);
+    read_bytes(input, bytes, 2048, s.pier);
+    read_all_sheets(input, pool, numbers, s.sheets);
 }
 
 // Whether every buffer holds what it held.
@@ -229,6 +232,7 @@ fn untouched(
 
 // An accepted fit.
 fn hold_fit(
+    input: Stdin,
     r: FitResult,
     m: usize,
     n: usize,
@@ -244,12 +248,12 @@ fn hold_fit(
         same: true,
         numbers: true,
     };
-    held = hold_buffer(held, out, m);
-    held = hold_buffer(held, change, m);
-    held = hold_buffer(held, sigma, m);
-    held = hold_buffer(held, diagnostics, 3 * n);
-    held = hold_result(held, r);
-    let needed = replay::large(150000);
+    held = hold_buffer(input, held, out, m);
+    held = hold_buffer(input, held, change, m);
+    held = hold_buffer(input, held, sigma, m);
+    held = hold_buffer(input, held, diagnostics, 3 * n);
+    held = hold_result(input, held, r);
+    let needed = replay::large(input, 150000);
     let zeros = cleared(scratch, needed);
     Held {
         same: held.same && zeros,
@@ -406,6 +410,7 @@ fn fit(
 
 // Its answer and its buffers, against the oracle's.
 fn judge(
+    input: Stdin,
     mut t: Tally,
     mode: u8,
     sigma_by: u8,
@@ -421,14 +426,14 @@ fn judge(
     requires { n ≤ 1100 }
 {
     t.fits = replay::more(t.fits);
-    let expected = replay::byte();
+    let expected = replay::byte(input);
     match fit {
         Fit::Refused(no) => {
             let kept = untouched(out, change, sigma, diagnostics, scratch);
             count_refused(t, no, kept, expected)
         }
         Fit::Done(r) => {
-            let held = hold_fit(r, m, n, out, change, sigma, diagnostics, scratch);
+            let held = hold_fit(input, r, m, n, out, change, sigma, diagnostics, scratch);
             count_done(t, mode, sigma_by, r, held, expected)
         }
     }
@@ -436,6 +441,7 @@ fn judge(
 
 // One call, lent these buffers.
 fn call(
+    input: Stdin,
     t: Tally,
     s: Sizes,
     p: Scalars,
@@ -461,6 +467,7 @@ fn call(
         scratch,
     );
     judge(
+        input,
         t,
         p.mode,
         p.sigma_by,
@@ -476,13 +483,13 @@ fn call(
 }
 
 // The numbers of the options, which are read in every mode.
-fn read_options(robust: bool) -> IterOptions {
-    let tol_rad = replay::double();
-    let initial_lambda = replay::double();
-    let lambda_up = replay::double();
-    let lambda_down = replay::double();
-    let huber_k = replay::double();
-    let max_iter = replay::small(65535);
+fn read_options(input: Stdin, robust: bool) -> IterOptions {
+    let tol_rad = replay::double(input);
+    let initial_lambda = replay::double(input);
+    let lambda_up = replay::double(input);
+    let lambda_down = replay::double(input);
+    let huber_k = replay::double(input);
+    let max_iter = replay::small(input, 65535);
     IterOptions {
         max_iter,
         tol_rad,
@@ -495,17 +502,17 @@ fn read_options(robust: bool) -> IterOptions {
 }
 
 // What stands behind the slices.
-fn read_scalars(mode: u8) -> Scalars {
-    let sin_lat = replay::double();
-    let cos_lat = replay::double();
-    let fit_tol = replay::double();
+fn read_scalars(input: Stdin, mode: u8) -> Scalars {
+    let sin_lat = replay::double(input);
+    let cos_lat = replay::double(input);
+    let fit_tol = replay::double(input);
     let settings = Settings {
         sin_lat,
         cos_lat,
         fit_tol,
     };
-    let sigma_by = replay::byte();
-    let options = read_options(mode == ROBUST);
+    let sigma_by = replay::byte(input);
+    let options = read_options(input, mode == ROBUST);
     Scalars {
         mode,
         settings,
@@ -533,7 +540,7 @@ fn scratch_room() -> [f64; 150000]
 }
 
 // The call with buffers of the places that its head gives.
-fn lend(t: Tally, s: Sizes, p: Scalars, bytes: &[u8], numbers: &[f64]) -> Tally
+fn lend(input: Stdin, t: Tally, s: Sizes, p: Scalars, bytes: &[u8], numbers: &[f64]) -> Tally
     requires { InRoom s × (4096 ≤ length bytes.now) × (43650 ≤ length numbers.now) }
 {
     let mut out = term_room();
@@ -547,6 +554,7 @@ fn lend(t: Tally, s: Sizes, p: Scalars, bytes: &[u8], numbers: &[f64]) -> Tally
     let d = s.diagnostics;
     let e = s.scratch;
     call(
+        input,
         t,
         s,
         p,
@@ -561,44 +569,44 @@ fn lend(t: Tally, s: Sizes, p: Scalars, bytes: &[u8], numbers: &[f64]) -> Tally
 }
 
 // One record.
-fn record(t: Tally, mode: u8, pool: &[f64], bytes: &mut [u8], numbers: &mut [f64]) -> Tally
+fn record(input: Stdin, t: Tally, mode: u8, pool: &[f64], bytes: &mut [u8], numbers: &mut [f64]) -> Tally
     requires { (37 * 400 ≤ length pool.now) × (4096 ≤ length bytes.old) × (43650 ≤ length numbers.old) }
 {
-    let s = read_sizes();
-    read_input(s, pool, bytes, numbers);
-    let p = read_scalars(mode);
-    lend(t, s, p, bytes, numbers)
+    let s = read_sizes(input);
+    read_input(input, s, pool, bytes, numbers);
+    let p = read_scalars(input, mode);
+    lend(input, t, s, p, bytes, numbers)
 }
 
 // How often each question refused. A single step isn't asked question 6, about the options.
-fn report_refused(refused: [u64; 16], iterated: bool) {
+fn report_refused(output: Stdout, refused: [u64; 16], iterated: bool) {
     for k in 1..14usize {
         if k != 6 || iterated {
-            replay::refused(k as u64, refused[k]);
+            replay::refused(output, k as u64, refused[k]);
         }
     }
 }
 
 // All counts. A single step has no loop that may converge, and isn't robust.
-fn report(t: Tally, iterated: bool) {
+fn report(output: Stdout, t: Tally, iterated: bool) {
     let refused = t.refused;
-    replay::line(b"fits", t.fits);
-    replay::line(b"done", t.done);
-    report_refused(refused, iterated);
-    replay::line(b"deficient", t.deficient);
-    replay::line(b"by rows", t.by_rows);
-    replay::line(b"not numbers", t.not_numbers);
-    replay::line(b"thirty sweeps", t.thirty);
-    replay::line(b"not settled", t.not_settled);
+    replay::line(output, b"fits", t.fits);
+    replay::line(output, b"done", t.done);
+    report_refused(output, refused, iterated);
+    replay::line(output, b"deficient", t.deficient);
+    replay::line(output, b"by rows", t.by_rows);
+    replay::line(output, b"not numbers", t.not_numbers);
+    replay::line(output, b"thirty sweeps", t.thirty);
+    replay::line(output, b"not settled", t.not_settled);
     if iterated {
-        replay::line(b"converged", t.converged);
-        replay::line(b"robust", t.robust);
+        replay::line(output, b"converged", t.converged);
+        replay::line(output, b"robust", t.robust);
     }
-    replay::line(b"different", t.different);
+    replay::line(output, b"different", t.different);
 }
 
 // All records.
-fn records(pool: &[f64], bytes: &mut [u8], numbers: &mut [f64]) -> Tally
+fn records(input: Stdin, pool: &[f64], bytes: &mut [u8], numbers: &mut [f64]) -> Tally
     requires { (37 * 400 ≤ length pool.now) × (4096 ≤ length bytes.old) × (43650 ≤ length numbers.old) }
 {
     let mut t = Tally {
@@ -614,11 +622,11 @@ fn records(pool: &[f64], bytes: &mut [u8], numbers: &mut [f64]) -> Tally
         robust: 0,
         different: 0,
     };
-    let mut head = replay::head();
+    let mut head = replay::head(input);
     let mut turns = u64::MAX;
     while turns > 0 && head.more {
-        t = record(t, head.first, pool, bytes, numbers);
-        head = replay::head();
+        t = record(input, t, head.first, pool, bytes, numbers);
+        head = replay::head(input);
         turns -= 1;
     }
     t.different = replay::ended(t.different, head);
@@ -626,18 +634,24 @@ fn records(pool: &[f64], bytes: &mut [u8], numbers: &mut [f64]) -> Tally
 }
 
 // The pool of sheets, then all records.
-fn run(pool: &mut [f64], bytes: &mut [u8], numbers: &mut [f64]) -> Tally
+fn run(input: Stdin, pool: &mut [f64], bytes: &mut [u8], numbers: &mut [f64]) -> Tally
     requires { (37 * 400 ≤ length pool.old) × (4096 ≤ length bytes.old) × (43650 ≤ length numbers.old) }
 {
-    let n = replay::small(400);
-    read_numbers(pool, 0, 37 * n);
-    records(pool, bytes, numbers)
+    let n = replay::small(input, 400);
+    read_numbers(input, pool, 0, 37 * n);
+    records(input, pool, bytes, numbers)
 }
 
 fn pool_room() -> [f64; 14800]
     ensures { 14800 ≡ length result }
 {
     [0.0; 14800]
+}
+
+fn byte_room() -> [u8; 4096]
+    ensures { 4096 ≡ length result }
+{
+    [0; 4096]
 }
 
 fn number_room() -> [f64; 43650]
@@ -647,10 +661,10 @@ fn number_room() -> [f64; 43650]
 }
 
 // Replays standard input and prints the counts: those of a single step, or those of an iterated fit.
-pub fn replay(iterated: bool) {
+pub fn replay(input: Stdin, output: Stdout, iterated: bool) {
     let mut pool = pool_room();
-    let mut bytes = io::buffer();
+    let mut bytes = byte_room();
     let mut numbers = number_room();
-    let t = run(&mut pool, &mut bytes, &mut numbers);
-    report(t, iterated);
+    let t = run(input, &mut pool, &mut bytes, &mut numbers);
+    report(output, t, iterated);
 }

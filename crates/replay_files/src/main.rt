@@ -2,9 +2,12 @@
 // the Rust made of it (oracle/README.md has the format); the counts and the number of listings that differ are written out.
 #![tactic(auto)]
 
+#![tactic(auto)]
+
 ghost use Rattle.std.specs.Prelude.{◌≡◌, ◌+◌, ◌<◌, ◌≤◌, length};
 
 use listing::LISTING;
+use std::rt::{Stdin, Stdout};
 
 #[derive(Clone, Copy)]
 struct Tally {
@@ -15,21 +18,21 @@ struct Tally {
 }
 
 // Whether a listing is what comes next; `expected` is room for it.
-fn same_bytes(listing: &[u8], expected: &mut [u8]) -> bool {
-    let given = replay::next(expected);
+fn same_bytes(input: Stdin, listing: &[u8], expected: &mut [u8]) -> bool {
+    let given = replay::next(input, expected);
     given && check::same(listing, expected)
 }
 
 // The same with the length in front: two bytes.
-fn same_listing(listing: &[u8]) -> bool {
+fn same_listing(input: Stdin, listing: &[u8]) -> bool {
     let mut length = [0u8; 2];
     let mut expected = [0u8; LISTING];
-    replay::next(&mut length);
+    replay::next(input, &mut length);
     let n = little_endian::u16_at(&length, 0) as usize;
     if LISTING < n {
         return false;
     }
-    same_bytes(listing, &mut expected[..n])
+    same_bytes(input, listing, &mut expected[..n])
 }
 
 // A number with one more digit behind it, the sixteens left out; other bytes are passed over.
@@ -66,7 +69,7 @@ fn is_refusal(listing: &[u8]) -> bool {
 }
 
 // Counts a listing, and whether it is the oracle's.
-fn count(mut t: Tally, listing: &[u8]) -> Tally {
+fn count(input: Stdin, mut t: Tally, listing: &[u8]) -> Tally {
     t.files = replay::more(t.files);
     if is_refusal(listing) {
         let k = number(listing);
@@ -74,17 +77,17 @@ fn count(mut t: Tally, listing: &[u8]) -> Tally {
     } else {
         t.fits = replay::more(t.fits);
     }
-    if !same_listing(listing) {
+    if !same_listing(input, listing) {
         t.different = replay::more(t.different);
     }
     t
 }
 
 // Lists a file and counts its listing.
-fn list(t: Tally, file: &[u8]) -> Tally {
+fn list(input: Stdin, t: Tally, file: &[u8]) -> Tally {
     let mut text = [0u8; LISTING];
     let k = pmf::list(file, &mut text);
-    count(t, &text[..k])
+    count(input, t, &text[..k])
 }
 
 // Puts the first k of eight bytes in the place of those at x, and hands back what was there.
@@ -101,13 +104,13 @@ fn exchange(file: &mut [u8], x: usize, bytes: [u8; 8], k: usize) -> [u8; 8]
 }
 
 // The first n bytes, with the k at x changed to the next ones of standard input; the base is as it was afterwards.
-fn changed(t: Tally, file: &mut [u8], n: usize, x: usize, k: usize) -> Tally
+fn changed(input: Stdin, t: Tally, file: &mut [u8], n: usize, x: usize, k: usize) -> Tally
     requires { (n ≤ length file.old) × (k ≤ 8) × (x + k ≤ length file.old) }
 {
     let mut bytes = [0u8; 8];
-    replay::next(&mut bytes[..k]);
+    replay::next(input, &mut bytes[..k]);
     let were = exchange(file, x, bytes, k);
-    let tally = list(t, &file[..n]);
+    let tally = list(input, t, &file[..n]);
     exchange(file, x, were, k);
     tally
 }
@@ -145,10 +148,10 @@ fn clear(s: &mut [u8]) {
 }
 
 // The next x bytes become the base, with zeros behind them.
-fn read_base(file: &mut [u8], x: usize)
+fn read_base(input: Stdin, file: &mut [u8], x: usize)
     requires { x + 64 ≤ length file.old }
 {
-    replay::next(&mut file[..x]);
+    replay::next(input, &mut file[..x]);
     clear(&mut file[x..x + 64]);
 }
 
@@ -160,48 +163,48 @@ struct Step {
 }
 
 // One record over a base of n bytes.
-fn record(t: Tally, kind: u8, file: &mut [u8], n: usize) -> Step
+fn record(input: Stdin, t: Tally, kind: u8, file: &mut [u8], n: usize) -> Step
     requires { (length file.old ≡ 40064) × (n ≤ 40000) }
     ensures { result.n ≤ 40000 }
 {
-    let x = replay::large(40000);
+    let x = replay::large(input, 40000);
     if kind == 0 {
-        read_base(file, x);
-        let tally = list(t, &file[..x]);
+        read_base(input, file, x);
+        let tally = list(input, t, &file[..x]);
         return Step { n: x, tally };
     }
     if 4 < kind {
-        replay::abandon();
+        replay::abandon(input);
         return Step { n, tally: t };
     }
     let end = size(kind, n, x);
     if 40064 < end {
-        replay::abandon();
+        replay::abandon(input);
         return Step { n, tally: t };
     }
-    let tally = changed(t, file, end, x, changes(kind));
+    let tally = changed(input, t, file, end, x, changes(kind));
     Step { n, tally }
 }
 
 // Each question that refused.
-fn report_refused(refused: [u64; 16]) {
+fn report_refused(output: Stdout, refused: [u64; 16]) {
     for k in 0..16usize {
         if refused[k] > 0 {
-            replay::refused(k as u64, refused[k]);
+            replay::refused(output, k as u64, refused[k]);
         }
     }
 }
 
-fn report(t: Tally) {
+fn report(output: Stdout, t: Tally) {
     let refused = t.refused;
-    replay::line(b"files", t.files);
-    replay::line(b"fits", t.fits);
-    report_refused(refused);
-    replay::line(b"different", t.different);
+    replay::line(output, b"files", t.files);
+    replay::line(output, b"fits", t.fits);
+    report_refused(output, refused);
+    replay::line(output, b"different", t.different);
 }
 
 // All records.
-fn records(file: &mut [u8]) -> Tally
+fn records(input: Stdin, file: &mut [u8]) -> Tally
     requires { length file.old ≡ 40064 }
 {
     let mut t = Tally {
@@ -211,13 +214,13 @@ fn records(file: &mut [u8]) -> Tally
         different: 0,
     };
     let mut n = 0usize;
-    let mut head = replay::head();
+    let mut head = replay::head(input);
     let mut turns = u64::MAX;
     while turns > 0 && head.more {
-        let s = record(t, head.first, file, n);
+        let s = record(input, t, head.first, file, n);
         t = s.tally;
         n = s.n;
-        head = replay::head();
+        head = replay::head(input);
         turns -= 1;
     }
     t.different = replay::ended(t.different, head);
@@ -231,8 +234,10 @@ fn room() -> [u8; 40064]
     [0u8; 40064]
 }
 
-fn main() {
+fn main(rt: HostRuntime) {
+    let input = rt.stdin();
+    let output = rt.stdout();
     let mut file = room();
-    let t = records(&mut file);
-    report(t);
+    let t = records(input, &mut file);
+    report(output, t);
 }

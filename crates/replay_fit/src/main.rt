@@ -1,6 +1,8 @@
 // Replays the oracle's single-step fits.
 #![tactic(auto)]
 
-fn main() {
-    replay_calls::replay(false);
+#![tactic(auto)]
+
+fn main(rt: HostRuntime) {
+    replay_calls::replay(rt.stdin(), rt.stdout(), false);
 }

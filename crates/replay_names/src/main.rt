@@ -2,11 +2,14 @@
 // format); the counts and the number of readings that differ are written out.
 #![tactic(auto)]
 
+#![tactic(auto)]
+
 ghost use Rattle.std.specs.Prelude.{◌≤◌, length};
 
 use equatorial::EquatorialTerm;
 use harmonic::{Components, Coordinate, HarmonicComponent, ResultType, TrigFunc};
 use terms::{Reading, Term, TermKind};
+use std::rt::{Stdin, Stdout};
 
 #[derive(Clone, Copy)]
 struct Tally {
@@ -93,23 +96,23 @@ fn coord_code(c: Coordinate) -> u8 {
 }
 
 // Whether the oracle's next three bytes are this component.
-fn same_component(c: HarmonicComponent) -> bool {
+fn same_component(input: Stdin, c: HarmonicComponent) -> bool {
     let func = c.func;
     let coord = c.coord;
     let mut e = [0u8; 3];
-    let given = replay::next(&mut e);
+    let given = replay::next(input, &mut e);
     let ours = [func_code(func), coord_code(coord), c.frequency];
     given && check::same(&ours, &e)
 }
 
 // Whether the oracle's next bytes are these components.
-fn same_components(cs: Components) -> bool {
+fn same_components(input: Stdin, cs: Components) -> bool {
     let list = cs.list;
     let mut same = true;
     let mut i = 0usize;
     while i < 7 {
         if i < cs.count {
-            if !same_component(list[i]) {
+            if !same_component(input, list[i]) {
                 same = false;
             }
         }
@@ -134,17 +137,17 @@ fn heading(t: Term) -> [u8; 5] {
 }
 
 // Whether the oracle's next bytes are this term.
-fn same_term(t: Term) -> bool {
+fn same_term(input: Stdin, t: Term) -> bool {
     let name = t.name;
     let head = heading(t);
     let components = t.components;
     let mut expected = [0u8; 16];
-    let given = replay::next(&mut expected);
+    let given = replay::next(input, &mut expected);
     let same_name = check::same(&name, &expected);
     let mut rest = [0u8; 5];
-    let rest_given = replay::next(&mut rest);
+    let rest_given = replay::next(input, &mut rest);
     let same_head = check::same(&head, &rest);
-    let same_list = same_components(components);
+    let same_list = same_components(input, components);
     given && rest_given && same_name && same_head && same_list
 }
 
@@ -182,8 +185,8 @@ fn count_short(mut t: Tally, r: Reading, name: &[u8]) -> Tally {
 }
 
 // Counts a reading, and whether it is the oracle's.
-fn count(mut t: Tally, r: Reading, name: &[u8]) -> Tally {
-    let expected = replay::byte();
+fn count(input: Stdin, mut t: Tally, r: Reading, name: &[u8]) -> Tally {
+    let expected = replay::byte(input);
     t.names = replay::more(t.names);
     if r.refusal == 0 {
         t.read = replay::more(t.read);
@@ -201,7 +204,7 @@ fn count(mut t: Tally, r: Reading, name: &[u8]) -> Tally {
         if term.pier_sensitive {
             t.sensitive = replay::more(t.sensitive);
         }
-        if !same_term(term) {
+        if !same_term(input, term) {
             t.different = replay::more(t.different);
         }
     }
@@ -209,39 +212,41 @@ fn count(mut t: Tally, r: Reading, name: &[u8]) -> Tally {
 }
 
 // Reads the n given bytes of a name and puts the first k of the slot to the reader.
-fn name(t: Tally, slot: &mut [u8], n: usize, k: usize) -> Tally
+fn name(input: Stdin, t: Tally, slot: &mut [u8], n: usize, k: usize) -> Tally
     requires { (n ≤ length slot.old) × (k ≤ length slot.old) }
 {
-    replay::next(&mut slot[..n]);
+    replay::next(input, &mut slot[..n]);
     let r = terms::read_term(&slot[..k]);
-    count(t, r, &slot[..n])
+    count(input, t, r, &slot[..n])
 }
 
 // One record: n given bytes in a slot of k.
-fn record(t: Tally, n: u8) -> Tally {
-    let k = replay::byte();
+fn record(input: Stdin, t: Tally, n: u8) -> Tally {
+    let k = replay::byte(input);
     let mut slot = [0u8; 256];
-    name(t, &mut slot, little_endian::size(n), little_endian::size(k))
+    name(input, t, &mut slot, little_endian::size(n), little_endian::size(k))
 }
 
-fn report(t: Tally) {
-    replay::line(b"names", t.names);
-    replay::line(b"read", t.read);
-    replay::line(b"pier sensitive", t.sensitive);
-    replay::refused(2, t.refused[2]);
-    replay::refused(7, t.refused[7]);
-    replay::refused(8, t.refused[8]);
-    replay::refused(9, t.refused[9]);
-    replay::refused(10, t.refused[10]);
-    replay::write(b"harmonics of 4, 5 and 6 bytes");
-    replay::number(t.short[0]);
-    replay::number(t.short[1]);
-    replay::number(t.short[2]);
-    replay::write(b"\n");
-    replay::line(b"different", t.different);
+fn report(output: Stdout, t: Tally) {
+    replay::line(output, b"names", t.names);
+    replay::line(output, b"read", t.read);
+    replay::line(output, b"pier sensitive", t.sensitive);
+    replay::refused(output, 2, t.refused[2]);
+    replay::refused(output, 7, t.refused[7]);
+    replay::refused(output, 8, t.refused[8]);
+    replay::refused(output, 9, t.refused[9]);
+    replay::refused(output, 10, t.refused[10]);
+    replay::write(output, b"harmonics of 4, 5 and 6 bytes");
+    replay::number(output, t.short[0]);
+    replay::number(output, t.short[1]);
+    replay::number(output, t.short[2]);
+    replay::write(output, b"\n");
+    replay::line(output, b"different", t.different);
 }
 
-fn main() {
+fn main(rt: HostRuntime) {
+    let input = rt.stdin();
+    let output = rt.stdout();
     let mut t = Tally {
         names: 0,
         read: 0,
@@ -250,13 +255,13 @@ fn main() {
         short: [0; 3],
         different: 0,
     };
-    let mut head = replay::head();
+    let mut head = replay::head(input);
     let mut turns = u64::MAX;
     while turns > 0 && head.more {
-        t = record(t, head.first);
-        head = replay::head();
+        t = record(input, t, head.first);
+        head = replay::head(input);
         turns -= 1;
     }
     t.different = replay::ended(t.different, head);
-    report(t);
+    report(output, t);
 }
