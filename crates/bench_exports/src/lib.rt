@@ -1,8 +1,6 @@
 // The solver's own calls in C for the benchmark, which ask what their callees ask. They begin with `bench_`: `pointing_` is the interface's alone.
 #![tactic(auto)]
 
-#![tactic(auto)]
-
 ghost use Rattle.std.specs.Prelude.{◌≡◌, ◌+◌, ◌*◌, ◌≤◌, ◌<◌, length};
 ghost use Rattle.limits.specs.Limits.{max_terms};
 ghost use Rattle.sequence.specs.Sequence.{part, Only};

@@ -1,8 +1,6 @@
 // The file program: a file on standard input, its listing on standard output (docs/SCOPE.md 11).
 #![tactic(auto)]
 
-#![tactic(auto)]
-
 ghost use Rattle.std.specs.Prelude.{◌≡◌, ◌≤◌, length};
 
 use listing::LISTING;

@@ -1,8 +1,6 @@
 // What the programs that replay the oracle's answers share: records from standard input, and lines of counts.
 #![tactic(auto)]
 
-#![tactic(auto)]
-
 ghost use Rattle.std.specs.Prelude.{◌≡◌, ◌≤◌, length};
 
 use std::io::{Read, Write};

@@ -2,8 +2,6 @@
 // has the format); whole answers, the buffers' tails, refused buffers and the cleared scratch are held against it.
 #![tactic(auto)]
 
-#![tactic(auto)]
-
 ghost use Rattle.std.specs.Prelude.{◌≡◌, ◌+◌, ◌*◌, ◌<◌, ◌≤◌, length};
 ghost use Rattle.replay_calls.specs.Room.{Lent, InRoom};
 
@@ -569,7 +567,14 @@ fn lend(input: Stdin, t: Tally, s: Sizes, p: Scalars, bytes: &[u8], numbers: &[f
 }
 
 // One record.
-fn record(input: Stdin, t: Tally, mode: u8, pool: &[f64], bytes: &mut [u8], numbers: &mut [f64]) -> Tally
+fn record(
+    input: Stdin,
+    t: Tally,
+    mode: u8,
+    pool: &[f64],
+    bytes: &mut [u8],
+    numbers: &mut [f64],
+) -> Tally
     requires { (37 * 400 ≤ length pool.now) × (4096 ≤ length bytes.old) × (43650 ≤ length numbers.old) }
 {
     let s = read_sizes(input);

@@ -2,8 +2,6 @@
 // the Rust made of it (oracle/README.md has the format); the counts and the number of listings that differ are written out.
 #![tactic(auto)]
 
-#![tactic(auto)]
-
 ghost use Rattle.std.specs.Prelude.{◌≡◌, ◌+◌, ◌<◌, ◌≤◌, length};
 
 use listing::LISTING;

@@ -1,8 +1,6 @@
 // Replays the oracle's single-step fits.
 #![tactic(auto)]
 
-#![tactic(auto)]
-
 fn main(rt: HostRuntime) {
     replay_calls::replay(rt.stdin(), rt.stdout(), false);
 }

@@ -2,13 +2,11 @@
 // the Rust made of every name (oracle/README.md has the format); the counts and the number of answers that differ are written out.
 #![tactic(auto)]
 
-#![tactic(auto)]
-
 ghost use Rattle.std.specs.Prelude.{◌≡◌, ◌+◌, ◌*◌, ◌<◌, ◌≤◌, length};
 
 use observation::Pair;
-use terms::answer::Jacobian;
 use std::rt::{Stdin, Stdout};
+use terms::answer::Jacobian;
 
 #[derive(Clone, Copy)]
 struct Tally {

@@ -2,8 +2,6 @@
 // (oracle/README.md has the format); the counts and the number of answers that differ are written out.
 #![tactic(auto)]
 
-#![tactic(auto)]
-
 ghost use Rattle.std.specs.Prelude.{◌≡◌, ◌≤◌, length};
 
 use model::{Breakdown, Changed, Correction, PointingModel};
@@ -248,7 +246,11 @@ fn at_point(input: Stdin, t: Tally, m: PointingModel, sheet: &[f64], p: Place, o
         let b = m.predict_breakdown(sheet, p.sin_lat, p.cos_lat, p.pier);
         return broken_down(input, t, b, m.count);
     }
-    corrected(input, t, m.apply_equatorial(sheet, p.sin_lat, p.cos_lat, p.pier))
+    corrected(
+        input,
+        t,
+        m.apply_equatorial(sheet, p.sin_lat, p.cos_lat, p.pier),
+    )
 }
 
 // The same with l numbers from sheet a on.

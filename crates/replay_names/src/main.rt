@@ -2,14 +2,12 @@
 // format); the counts and the number of readings that differ are written out.
 #![tactic(auto)]
 
-#![tactic(auto)]
-
 ghost use Rattle.std.specs.Prelude.{◌≤◌, length};
 
 use equatorial::EquatorialTerm;
 use harmonic::{Components, Coordinate, HarmonicComponent, ResultType, TrigFunc};
-use terms::{Reading, Term, TermKind};
 use std::rt::{Stdin, Stdout};
+use terms::{Reading, Term, TermKind};
 
 #[derive(Clone, Copy)]
 struct Tally {
@@ -224,7 +222,13 @@ fn name(input: Stdin, t: Tally, slot: &mut [u8], n: usize, k: usize) -> Tally
 fn record(input: Stdin, t: Tally, n: u8) -> Tally {
     let k = replay::byte(input);
     let mut slot = [0u8; 256];
-    name(input, t, &mut slot, little_endian::size(n), little_endian::size(k))
+    name(
+        input,
+        t,
+        &mut slot,
+        little_endian::size(n),
+        little_endian::size(k),
+    )
 }
 
 fn report(output: Stdout, t: Tally) {

@@ -2,8 +2,6 @@
 // the counts and the number of solves that differ are written out.
 #![tactic(auto)]
 
-#![tactic(auto)]
-
 ghost use Rattle.std.specs.Prelude.{◌≡◌, ◌+◌, ◌*◌, ◌<◌, ◌≤◌, length, take};
 ghost use Rattle.limits.specs.Limits.{max_terms};
 ghost use Rattle.linalg.specs.Linalg.{Placed};
@@ -55,7 +53,15 @@ fn hold_first(input: Stdin, held: Held, x: [f64; MAX_TERMS], m: usize) -> Held
 }
 
 // The leverage of the first rows, from the columns that the solve left.
-fn hold_leverage(input: Stdin, held: Held, w: &[f64], h: usize, rows: usize, r: SolveOutcome, m: usize) -> Held
+fn hold_leverage(
+    input: Stdin,
+    held: Held,
+    w: &[f64],
+    h: usize,
+    rows: usize,
+    r: SolveOutcome,
+    m: usize,
+) -> Held
     requires { (rows ≤ h) × (m ≤ max_terms) × Placed h w.now (take m r.order) × (length (take m r.order) ≡ m) }
 {
     let order = r.order;
