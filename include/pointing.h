@@ -1,4 +1,4 @@
-/* The pointing fit as a C library: target/staticlib/libexports.a, which `rt staticlib exports` writes for x86-64.
+/* The pointing fit as a C library: target/staticlib/libexports.a, which `sh ffi/build` writes for x86-64.
  *
  * Every call answers every input. It asks the questions below in their order; the first that is answered "no" gives its number in `refusal`,
  * every other field is 0, and every lent buffer holds what it held. Where `refusal` is 0 the answer is whole.
