@@ -19,8 +19,8 @@ MEMBER = re.compile(r"(?m)^ +(?:pub )?([^\s:(){}\[\].,;=]+) *:(?!\S) *(?!tie\.)"
 # lemmas that would have the name of the definition they are about, by the crate
 LEMMAS = {("best", "units_of", "unitsOf"): "units_of_lem", ("harmonic", "is_digit", "isDigit"): "is_digit_lem", ("linalg", "in_order", "inOrder"): "in_order_lem",
           ("pmf", "room-sizes", "roomSizes"): "room_sizes_lem", ("pmf", "fit-text", "fitText"): "fit_text_lem", ("float", "is-nan", "isFinite"): "is_nan_lem"}
-# definitions that would have the name of a field that they are about
-DEFINITIONS = {"huberK": "huber_k_of", "pierSensitive": "pier_sensitive_of"}
+# names that the rules leave as no reader expects, or that a field of a record has
+DEFINITIONS = {"change-room": "change_room", "huberK": "huber_k_of", "pierSensitive": "pier_sensitive_of"}
 EDGE = r"[\w\-'→←≤≡≢#₀₁₂]"
 
 

@@ -34,7 +34,7 @@ module _ (l : FitInputs) (r : RunInputs) (need : ℕ) (is : r ≡ run_inputs_of 
       let m = length l.coefficients in
       let n = length l.dh in
       rw (is, enough, up_to-length n)
-      (p.counted, scratch_enough m n, p.scratch_room, p.coefficients_room, p.change-room, p.sigma_room, p.diagnostics_room)
+      (p.counted, scratch_enough m n, p.scratch_room, p.coefficients_room, p.change_room, p.sigma_room, p.diagnostics_room)
 
   -- the fit F of its run
   pub run_fit : (F : Run → ℕ → Outcome) (x : Outcome) → x ≡ F (run_from r) need → x ≡ F (run_of l) (scratch_needed (length l.coefficients) (length l.dh))

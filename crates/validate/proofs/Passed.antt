@@ -57,7 +57,7 @@ some a b c d e f g h i j t =
 
 record Roomy (s : Sizes) (m n : ℕ) : Type 0 where
   coefficients_room : m ≤ s.coefficients
-  change-room : m ≤ s.change
+  change_room : m ≤ s.change
   sigma_room : m ≤ s.sigma
   diagnostics_room : 3 * n ≤ s.diagnostics
   scratch_room : scratch_needed m n ≤ s.scratch
@@ -75,7 +75,7 @@ room_facts s m n e =
     let e2 : (a && b) ≡ true = left_of (a && b) c e3 in
     record {
       coefficients_room = leb-true m s.coefficients (left_of a b e2);
-      change-room = leb-true m s.change (right_of a b e2);
+      change_room = leb-true m s.change (right_of a b e2);
       sigma_room = leb-true m s.sigma (right_of (a && b) c e3);
       diagnostics_room = leb-true (3 * n) s.diagnostics (right_of (a && b && c) d e4);
       scratch_room = leb-true (scratch_needed m n) s.scratch (right_of (a && b && c && d) f e);
@@ -123,7 +123,7 @@ ready l o s r e q =
       counted = counted l (limits_facts m n y.0) c (eqb-true no 0 y.3) (ltb-true 0 free y.4) (leb-true free n y.5);
       fixed_count = c.fixed_count;
       coefficients_room = h.coefficients_room;
-      change-room = h.change-room;
+      change_room = h.change_room;
       sigma_room = h.sigma_room;
       diagnostics_room = h.diagnostics_room;
       scratch_room = h.scratch_room;

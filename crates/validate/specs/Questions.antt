@@ -100,7 +100,7 @@ pub record Ready (l : FitInputs) (s : Sizes) : Type 0 where
   pub counted : Counted (run_inputs_of l)
   pub fixed_count : length l.fixed ≡ length l.coefficients
   pub coefficients_room : length l.coefficients ≤ s.coefficients
-  pub change-room : length l.coefficients ≤ s.change
+  pub change_room : length l.coefficients ≤ s.change
   pub sigma_room : length l.coefficients ≤ s.sigma
   pub diagnostics_room : 3 * length l.dh ≤ s.diagnostics
   pub scratch_room : scratch_needed (length l.coefficients) (length l.dh) ≤ s.scratch
