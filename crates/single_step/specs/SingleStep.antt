@@ -10,7 +10,8 @@ use Rattle.solver.specs.declared.IterReport.{IterReport}
 use Rattle.solver.specs.declared.SigmaBy.{SigmaBy}
 use Rattle.solver.specs.Call.{FitInputs, Buffers, sizes_of}
 use Rattle.validate.specs.Questions.{scratch_needed, asked, no_options}
-use Rattle.design.specs.Design.{Run, run_of, rows_of, height_of, column_of, sky_of, differences, sky_differences, subtract_all, product, extracted, scattered, free_columns}
+use Rattle.design.specs.Design.{Run, run_of, rows_of, height_of, column_of, sky_of, differences, sky_differences}
+use Rattle.design.specs.Design.{subtract_all, product, extracted, scattered, free_columns}
 use Rattle.outcome.specs.Outcome.{Outcome, decided, finished}
 
 -- ---- single_step_fit, of a run and the coefficients s that it starts from, one for each of its m terms

@@ -19,13 +19,15 @@ pub loop-i-init : goal.loop-i-init
 loop-i-init c = (omega arith, refl, each_none _ _)
 
 pub offset_bounds-change-j : goal.offset_bounds-change-j
-offset_bounds-change-j c = omega (arith, below c)
+offset_bounds-change-j c =
+    let h = c.requires.1 c.loop-i.i (omega arith) in
+    omega (arith, c.index-j.ensures, c.fill.auto.s, h)
 
 -- the index has a place
 pub bounds-change-j : goal.bounds-change-j
 bounds-change-j c =
     let h = c.requires.1 c.loop-i.i (omega arith) in
-    omega (arith, c.index-j.ensures, c.fill.auto.0, h)
+    omega (arith, c.index-j.ensures, c.fill.auto.s, h)
 
 pub loop-i-preserved : goal.loop-i-preserved
 loop-i-preserved c =

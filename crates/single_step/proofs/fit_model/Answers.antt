@@ -1,28 +1,26 @@
--- `single_step::fit_model` meets its contract. Assumes nothing.
-use Rattle.solver.specs.Call.{FitInputs, inputs, Buffers, buffers, sizes_of}
+use mathlib.Core.Path.{refl}
+use Rattle.solver.specs.Call.{inputs, buffers, sizes_of}
 use Rattle.validate.proofs.Passed.{ready}
 use Rattle.single_step.proofs.Outcome.{refused, accepted}
 use Rattle.single_step.proofs.fit_model.Goals as goal
-use Rattle.single_step.proofs.fit_model.Goals.{Start}
-
-abbrev call : Start → FitInputs
-call c =
-    let a = c.args in
-    inputs a.names.now a.fixed.now a.coefficients.now a.dh.now a.dd.now a.pier.now a.sheets.now a.settings
-
-abbrev lent : Start → Buffers
-lent c = let a = c.args in buffers a.out.now a.change.now a.sigma.now a.diagnostics.now a.scratch.now
 
 pub fit-requires : goal.fit-requires
 fit-requires c =
-    ready (call c.before.before.before.before.before.before.before.before.before.before.before.before.before.before.before.before.before.before.before.before.before) _ (sizes_of (lent c.before.before.before.before.before.before.before.before.before.before.before.before.before.before.before.before.before.before.before.before.before)) _ c.enum_told-1.given.1 c.questions-asked.ensures
+    let a = c.args in
+    let l = inputs a.names.now a.fixed.now a.coefficients.now a.dh.now a.dd.now a.pier.now a.sheets.now a.settings in
+    let b = buffers a.out.now a.change.now a.sigma.now a.diagnostics.now a.scratch.now in
+    (refl, ready l _ (sizes_of b) _ c.in-Pass.is c.questions-asked.ensures)
 
 pub returns-in-No : goal.returns-in-No
 returns-in-No c =
-    refused (call c.before.before.before.before.before.before.before.before.before.before.before.before.before.before.before.before.before) c.args.sigma_by (lent c.before.before.before.before.before.before.before.before.before.before.before.before.before.before.before.before.before) _ c.no_options.ensures _ c.questions-asked.ensures _
-    c.asked-1.given.1
+    let a = c.args in
+    let l = inputs a.names.now a.fixed.now a.coefficients.now a.dh.now a.dd.now a.pier.now a.sheets.now a.settings in
+    let b = buffers a.out.now a.change.now a.sigma.now a.diagnostics.now a.scratch.now in
+    refused l a.sigma_by b _ c.no_options.ensures _ c.questions-asked.ensures _ c.in-No.is
 
 pub returns-in-Pass : goal.returns-in-Pass
 returns-in-Pass c =
-    accepted (call c.before.before.before.before.before.before.before.before.before.before.before.before.before.before.before.before.before.before.before.before.before.before.before.before.before.before.before.before.before.before.before.before) c.args.sigma_by (lent c.before.before.before.before.before.before.before.before.before.before.before.before.before.before.before.before.before.before.before.before.before.before.before.before.before.before.before.before.before.before.before.before) _ c.no_options.ensures _ c.questions-asked.ensures _
-    c.enum_told-1.given.1 c.fit.ensures
+    let a = c.args in
+    let l = inputs a.names.now a.fixed.now a.coefficients.now a.dh.now a.dd.now a.pier.now a.sheets.now a.settings in
+    let b = buffers a.out.now a.change.now a.sigma.now a.diagnostics.now a.scratch.now in
+    accepted l a.sigma_by b _ c.no_options.ensures _ c.questions-asked.ensures _ c.in-Pass.is c.fit.ensures

@@ -1,176 +1,198 @@
--- `single_step::fit_run` meets its contract. Assumes nothing.
-use Prim.Native.Nat.{◌*◌, ◌≤◌}
+use Prim.Native.Nat.{ℕ, ◌+◌, ◌*◌, ◌≤◌}
 use native.Mathlib.Omega.{arith}
-use mathlib.Core.Path.{refl, sym, ◌∙◌}
+use mathlib.Core.Path.{◌≡◌, refl, sym, ◌∙◌}
 use mathlib.Core.List.{List}
-use lib.ListN.{length}
+use lib.ListN.{length, take}
 use lib.Ieee.{Float}
 use lib.Seq.{length-take-le}
 use Rattle.solver.specs.Call.{buffers}
-use Rattle.design.specs.Design.{RunInputs, run_inputs}
+use Rattle.design.specs.Design.{RunInputs}
+use Rattle.design.specs.Counted.{Counted}
 use Rattle.design.proofs.Runs.{counted_as, seen, named}
-use Rattle.outcome.specs.Scratch.{count_of}
+use Rattle.outcome.specs.Scratch.{count_of, height_in}
 use Rattle.outcome.proofs.Front.{front_size, renewed, Renewed, front_long, front_fits, front_count}
 use Rattle.outcome.proofs.Laws.{finish_ready}
 use Rattle.outcome.proofs.Runs.{fits_front}
 use Rattle.single_step.proofs.Run.{step_in_order, after_sky, Lent, lent_long, lent_fits, step_kept, run-fitted}
 use Rattle.single_step.proofs.fit_run.Goals as goal
-use Rattle.single_step.proofs.fit_run.Goals.{After-changed, After-changes, After-free_residuals, After-on_the_sky-sky, After-solve-solved, Start}
 
-abbrev run : Start → RunInputs
-run c =
-    let a = c.args in
-    run_inputs (length a.coefficients.now) a.names.now a.free.now a.dh.now a.dd.now a.pier.now a.sheets.now a.used.now a.s
+-- ---- what each call wrote in scratch, w: first a from the step, then v from the sky, then r, the residuals
 
--- ---- what each call wrote
--- in scratch
-abbrev made : After-solve-solved → List Float
-made c = c.solve-solved.new.1.1.1.1.1.1.1.1.1.0
+module _ {l : RunInputs} {need : ℕ} (w a : List Float) (c : Counted l) (room : 8 * count_of l + l.m * height_in l ≤ need) (fits : need ≤ length w)
+    (kept : length a ≡ length (take need w)) where
+  wrote_step : Renewed w a need
+  wrote_step = record { room = fits; kept = kept }
 
-abbrev shown : After-on_the_sky-sky → List Float
-shown c = c.on_the_sky-sky.new.1.1.1.1.1.1.1.1.1.0
+  -- there is room for the sky, and for the residuals
+  sky_room : 4 * count_of l ≤ length (renewed w a need)
+  sky_room = omega (arith, front_long wrote_step)
 
-abbrev rest : After-free_residuals → List Float
-rest c = c.free_residuals.new.1.1.1.1.1.1.1.1.0
+  module _ (v : List Float) (kept_sky : length v ≡ length (take (4 * count_of l) (renewed w a need))) where
+    wrote_sky : Renewed (renewed w a need) v (4 * count_of l)
+    wrote_sky = record { room = sky_room; kept = kept_sky }
 
-wrote_step : (c : After-solve-solved) → Renewed c.args.scratch.now (made c) c.args.need
-wrote_step c = record { room = c.requires.2; kept = c.solve-solved.auto.1.1.1.1.1.1.1.1.1.0 }
+    left_room : 8 * count_of l ≤ length (after_sky l need w a v)
+    left_room = omega (arith, front_long wrote_sky ∙ front_long wrote_step)
 
-wrote_change : (c : After-changes)
-    → Renewed c.args.change.now c.changes.new.1.1.0 (length c.args.coefficients.now)
-wrote_change c = record { room = c.requires.4; kept = c.changes.auto.1.1.0 }
-
-wrote_set : (c : After-changed)
-    → Renewed c.args.out.now c.changed.new.1.1.0 (length c.args.coefficients.now)
-wrote_set c = record { room = c.requires.3; kept = c.changed.auto.1.1.0 }
-
--- scratch has room for the sky, and for the residuals
-sky_room : (c : After-solve-solved)
-    → 4 * count_of (run c.before.before.before.before.before.before.before.before.before.before.before.before.before.before.before) ≤ length (renewed c.args.scratch.now (made c) c.args.need)
-sky_room c = omega (arith, c.requires.counted, c.requires.2, front_long (wrote_step c))
-
-wrote_sky : (c : After-on_the_sky-sky)
-    → Renewed (renewed c.args.scratch.now (made c.before.before.before.before.before.before.before.before.before.before.before.before.before.before) c.args.need) (shown c) (4 * count_of (run c.before.before.before.before.before.before.before.before.before.before.before.before.before.before.before.before.before.before.before.before.before.before.before.before.before.before.before.before.before))
-wrote_sky c = record { room = sky_room c.before.before.before.before.before.before.before.before.before.before.before.before.before.before; kept = c.on_the_sky-sky.auto.1.1.1.1.1.1.1.1.1.0 }
-
-left_room : (c : After-on_the_sky-sky)
-    → 8 * count_of (run c.before.before.before.before.before.before.before.before.before.before.before.before.before.before.before.before.before.before.before.before.before.before.before.before.before.before.before.before.before) ≤ length (after_sky (run c.before.before.before.before.before.before.before.before.before.before.before.before.before.before.before.before.before.before.before.before.before.before.before.before.before.before.before.before.before) c.args.need c.args.scratch.now (made c.before.before.before.before.before.before.before.before.before.before.before.before.before.before) (shown c))
-left_room c =
-    omega (arith, c.requires.counted, c.requires.2, front_long (wrote_sky c) ∙ front_long (wrote_step c.before.before.before.before.before.before.before.before.before.before.before.before.before.before))
-
-wrote_all : (c : After-free_residuals)
-    → Lent (run c.before.before.before.before.before.before.before.before.before.before.before.before.before.before.before.before.before.before.before.before.before.before.before.before.before.before.before.before.before.before.before.before.before.before) c.args.need c.args.scratch.now (made c.before.before.before.before.before.before.before.before.before.before.before.before.before.before.before.before.before.before.before) (shown c.before.before.before.before.before) (rest c)
-wrote_all c =
-    record {
-      counted = c.requires.s_value;
-      room = c.requires.counted;
-      stepped = wrote_step c.before.before.before.before.before.before.before.before.before.before.before.before.before.before.before.before.before.before.before;
-      seen = wrote_sky c.before.before.before.before.before;
-      left = record { room = left_room c.before.before.before.before.before; kept = c.free_residuals.auto.1.1.1.1.1.1.1.1.0 };
-    }
-
--- stars are few
-few : (c : After-changed) → 8 * count_of (run c.before.before.before.before.before.before.before.before.before.before.before.before.before.before.before.before.before.before.before.before.before.before.before.before.before) ≤ 8192
-few c = let n = c.requires.s_value in omega (arith, n.stars, n.used_few)
-
-pub slice_bounds-solve-end-2 : goal.slice_bounds-solve-end-2
-slice_bounds-solve-end-2 c = front_size _ _ (omega arith)
+    wrote_all : {r : List Float} → length r ≡ length (take (8 * count_of l) (after_sky l need w a v)) → Lent l need w a v r
+    wrote_all kept_left =
+        record { counted = c; room = room; stepped = wrote_step; seen = wrote_sky; left = record { room = left_room; kept = kept_left } }
 
 -- ---- the calls
+
+pub slice_bounds-solve-end-2 : goal.slice_bounds-solve-end-2
+slice_bounds-solve-end-2 g c = front_size _ _ c.requires.1.2
+
 pub solve-solved-requires : goal.solve-solved-requires
-solve-solved-requires c =
-    fits_front (run c.before.before.before.before.before.before.before.before.before.before.before.before.before.before) _ c.args.need c.args.scratch.now refl c.requires.s_value c.requires.counted c.requires.2
+solve-solved-requires g c =
+    let q = rw (← c.requires.0) at c.requires.1 in
+    (refl, fits_front _ _ c.args.need c.args.scratch.now refl q.0 q.1 q.2)
 
 pub slice_bounds-changes-end : goal.slice_bounds-changes-end
-slice_bounds-changes-end c = c.requires.4
+slice_bounds-changes-end g c =
+    let q = rw (← c.requires.0) at c.requires.1 in
+    q.4
 
 pub slice_bounds-changes-end-2 : goal.slice_bounds-changes-end-2
-slice_bounds-changes-end-2 c = front_size _ _ c.requires.4
+slice_bounds-changes-end-2 g c =
+    let q = rw (← c.requires.0) at c.requires.1 in
+    front_size _ _ q.4
 
 pub changes-requires : goal.changes-requires
-changes-requires c =
-    let n = c.requires.s_value in
-    (omega (arith, n.terms, n.free_few), rw (length-take-le (length c.args.coefficients.now) c.args.change.now c.requires.4) n.free_below)
+changes-requires g c =
+    let q = rw (← c.requires.0) at c.requires.1 in
+    let n = q.0 in
+    (omega (arith, n.terms, n.free_few), rw (length-take-le (length c.args.coefficients.now) c.args.change.now q.4) n.free_below)
 
 pub slice_bounds-changed-end : goal.slice_bounds-changed-end
-slice_bounds-changed-end c = front_fits (wrote_change c.before.before)
+slice_bounds-changed-end g c =
+    let q = rw (← c.requires.0) at c.requires.1 in
+    let t : Renewed _ _ _ = record { room = q.4; kept = c.changes.auto.change } in
+    front_fits t
 
 pub slice_bounds-changed-end-2 : goal.slice_bounds-changed-end-2
-slice_bounds-changed-end-2 c = sym (front_count (wrote_change c.before.before))
+slice_bounds-changed-end-2 g c =
+    let q = rw (← c.requires.0) at c.requires.1 in
+    let t : Renewed _ _ _ = record { room = q.4; kept = c.changes.auto.change } in
+    sym (front_count t)
 
 pub slice_bounds-changed-end-3 : goal.slice_bounds-changed-end-3
-slice_bounds-changed-end-3 c = c.requires.3
+slice_bounds-changed-end-3 g c =
+    let q = rw (← c.requires.0) at c.requires.1 in
+    q.3
 
 pub slice_bounds-changed-end-4 : goal.slice_bounds-changed-end-4
-slice_bounds-changed-end-4 c = front_size _ _ c.requires.3
+slice_bounds-changed-end-4 g c =
+    let q = rw (← c.requires.0) at c.requires.1 in
+    front_size _ _ q.3
 
 pub changed-requires : goal.changed-requires
-changed-requires c = (front_count (wrote_change c.before.before.before), length-take-le (length c.args.coefficients.now) c.args.out.now c.requires.3)
+changed-requires g c =
+    let q = rw (← c.requires.0) at c.requires.1 in
+    let t : Renewed _ _ _ = record { room = q.4; kept = c.changes.auto.change } in
+    (front_count t, length-take-le (length c.args.coefficients.now) c.args.out.now q.3)
 
 pub slice_bounds-on_the_sky-end : goal.slice_bounds-on_the_sky-end
-slice_bounds-on_the_sky-end c = front_fits (wrote_set c.before.before)
+slice_bounds-on_the_sky-end g c =
+    let q = rw (← c.requires.0) at c.requires.1 in
+    let t : Renewed _ _ _ = record { room = q.3; kept = c.changed.auto.out } in
+    front_fits t
 
 pub slice_bounds-on_the_sky-end-2 : goal.slice_bounds-on_the_sky-end-2
-slice_bounds-on_the_sky-end-2 c = sym (front_count (wrote_set c.before.before))
+slice_bounds-on_the_sky-end-2 g c =
+    let q = rw (← c.requires.0) at c.requires.1 in
+    let t : Renewed _ _ _ = record { room = q.3; kept = c.changed.auto.out } in
+    sym (front_count t)
 
 pub overflow_mul-n : goal.overflow_mul-n
-overflow_mul-n c = omega (arith, few c.before.before)
+overflow_mul-n g c =
+    let q = rw (← c.requires.0) at c.requires.1 in
+    omega (arith, q.0.stars, q.0.used_few)
 
 pub slice_bounds-on_the_sky-end-3 : goal.slice_bounds-on_the_sky-end-3
-slice_bounds-on_the_sky-end-3 c = sky_room c.before.before.before.before.before.before.before.before.before.before.before.before
+slice_bounds-on_the_sky-end-3 g c =
+    let q = rw (← c.requires.0) at c.requires.1 in
+    sky_room _ _ q.0 q.1 q.2 c.solve-solved.auto.w
 
 pub slice_bounds-on_the_sky-end-4 : goal.slice_bounds-on_the_sky-end-4
-slice_bounds-on_the_sky-end-4 c = front_size _ _ (sky_room c.before.before.before.before.before.before.before.before.before.before.before.before.before)
+slice_bounds-on_the_sky-end-4 g c =
+    let q = rw (← c.requires.0) at c.requires.1 in
+    front_size _ _ (sky_room _ _ q.0 q.1 q.2 c.solve-solved.auto.w)
 
 pub on_the_sky-sky-requires : goal.on_the_sky-sky-requires
-on_the_sky-sky-requires c =
-    record { s_value = counted_as (run c.before.before.before.before.before.before.before.before.before.before.before.before.before.before.before.before.before.before.before.before.before.before.before.before.before.before.before.before) _ (front_count (wrote_set c.before.before.before)) c.requires.s_value; counted = length-take-le _ _ (sky_room c.before.before.before.before.before.before.before.before.before.before.before.before.before) }
+on_the_sky-sky-requires g c =
+    let q = rw (← c.requires.0) at c.requires.1 in
+    let t : Renewed _ _ _ = record { room = q.3; kept = c.changed.auto.out } in
+    (refl, (counted_as _ _ (front_count t) q.0, length-take-le _ _ (sky_room _ _ q.0 q.1 q.2 c.solve-solved.auto.w)))
 
 pub overflow_mul-n-2 : goal.overflow_mul-n-2
-overflow_mul-n-2 c = omega (arith, few c.before.before.before.before.before.before.before)
+overflow_mul-n-2 g c =
+    let q = rw (← c.requires.0) at c.requires.1 in
+    omega (arith, q.0.stars, q.0.used_few)
 
 pub slice_bounds-free_residuals-end : goal.slice_bounds-free_residuals-end
-slice_bounds-free_residuals-end c = left_room c.before.before.before
+slice_bounds-free_residuals-end g c =
+    let q = rw (← c.requires.0) at c.requires.1 in
+    left_room _ _ q.0 q.1 q.2 c.solve-solved.auto.w _ c.on_the_sky-sky.auto.v
 
 pub slice_bounds-free_residuals-end-2 : goal.slice_bounds-free_residuals-end-2
-slice_bounds-free_residuals-end-2 c = front_size _ _ (left_room c.before.before.before.before)
+slice_bounds-free_residuals-end-2 g c =
+    let q = rw (← c.requires.0) at c.requires.1 in
+    front_size _ _ (left_room _ _ q.0 q.1 q.2 c.solve-solved.auto.w _ c.on_the_sky-sky.auto.v)
 
 pub free_residuals-requires : goal.free_residuals-requires
-free_residuals-requires c =
-    let n = c.requires.s_value in record { used_value = seen _ n; seen = (omega (arith, n.terms, n.free_few), named _ n, length-take-le _ _ (left_room c.before.before.before.before)) }
+free_residuals-requires g c =
+    let q = rw (← c.requires.0) at c.requires.1 in
+    let n = q.0 in
+    let room = left_room _ _ q.0 q.1 q.2 c.solve-solved.auto.w _ c.on_the_sky-sky.auto.v in
+    (refl, (seen _ n, omega (arith, n.terms, n.free_few), named _ n, length-take-le _ _ room))
 
 pub slice_bounds-finish-end : goal.slice_bounds-finish-end
-slice_bounds-finish-end c = lent_fits (wrote_all c.before.before.before.before)
+slice_bounds-finish-end g c =
+    let q = rw (← c.requires.0) at c.requires.1 in
+    lent_fits (wrote_all _ _ q.0 q.1 q.2 c.solve-solved.auto.w _ c.on_the_sky-sky.auto.v c.free_residuals.auto.v)
 
 pub slice_bounds-finish-end-2 : goal.slice_bounds-finish-end-2
-slice_bounds-finish-end-2 c = front_size _ _ (lent_fits (wrote_all c.before.before.before.before.before))
+slice_bounds-finish-end-2 g c =
+    let q = rw (← c.requires.0) at c.requires.1 in
+    front_size _ _ (lent_fits (wrote_all _ _ q.0 q.1 q.2 c.solve-solved.auto.w _ c.on_the_sky-sky.auto.v c.free_residuals.auto.v))
 
 pub finish-requires : goal.finish-requires
-finish-requires c =
-    finish_ready (run c.before.before.before.before.before.before.before.before.before.before.before.before.before.before.before.before.before.before.before.before.before.before.before.before.before.before.before.before.before.before.before.before.before.before.before.before.before.before.before) _ c.args.sigma.now c.args.diagnostics.now c.solve-solved.result _
-    (fits_front (run c.before.before.before.before.before.before.before.before.before.before.before.before.before.before.before.before.before.before.before.before.before.before.before.before.before.before.before.before.before.before.before.before.before.before.before.before.before.before.before) _ c.args.need _ refl c.requires.s_value c.requires.counted (lent_fits (wrote_all c.before.before.before.before.before)))
-    (step_kept (wrote_all c.before.before.before.before.before) c.solve-solved.result _ c.solve-solved.ensures.solution) (step_in_order (run c.before.before.before.before.before.before.before.before.before.before.before.before.before.before.before.before.before.before.before.before.before.before.before.before.before.before.before.before.before.before.before.before.before.before.before.before.before.before.before) c.args.coefficients.now) c.requires.5 c.requires.6
+finish-requires g c =
+    let q = rw (← c.requires.0) at c.requires.1 in
+    let t = wrote_all _ _ q.0 q.1 q.2 c.solve-solved.auto.w _ c.on_the_sky-sky.auto.v c.free_residuals.auto.v in
+    finish_ready _ _ c.args.sigma.now c.args.diagnostics.now c.solve-solved.result _
+    (fits_front _ _ c.args.need _ refl q.0 q.1 (lent_fits t))
+    (step_kept t c.solve-solved.result _ c.solve-solved.ensures.solution) (step_in_order _ c.args.coefficients.now) q.5 q.6
 
 pub shape_of-out : goal.shape_of-out
-shape_of-out c =
-    front_long (wrote_set c.before.before.before.before.before.before.before.before.before.before.before.before.before.before.before.before.before.before.before.before.before)
+shape_of-out g c =
+    let q = rw (← c.requires.0) at c.requires.1 in
+    let t : Renewed _ _ _ = record { room = q.3; kept = c.changed.auto.out } in
+    front_long t
 
 pub shape_of-change : goal.shape_of-change
-shape_of-change c =
-    front_long (wrote_change c.before.before.before.before.before.before.before.before.before.before.before.before.before.before.before.before.before.before.before.before.before.before.before.before.before)
+shape_of-change g c =
+    let q = rw (← c.requires.0) at c.requires.1 in
+    let t : Renewed _ _ _ = record { room = q.4; kept = c.changes.auto.change } in
+    front_long t
 
 pub shape_of-scratch : goal.shape_of-scratch
-shape_of-scratch c =
-    let t : Renewed _ c.finish.new.1.1.1.1.1.1.1.1.1.1.0 _ =
-    record { room = lent_fits (wrote_all c.before.before.before.before.before.before.before.before.before.before.before.before); kept = c.finish.auto.1.1.1.1.1.1.1.1.1.1.0 } in
-    front_long t ∙ lent_long (wrote_all c.before.before.before.before.before.before.before.before.before.before.before.before)
+shape_of-scratch g c =
+    let q = rw (← c.requires.0) at c.requires.1 in
+    let t = wrote_all _ _ q.0 q.1 q.2 c.solve-solved.auto.w _ c.on_the_sky-sky.auto.v c.free_residuals.auto.v in
+    let u : Renewed _ c.finish.new.w _ = record { room = lent_fits t; kept = c.finish.auto.w } in
+    front_long u ∙ lent_long t
 
 pub returns : goal.returns
-returns c =
+returns g c =
     let a = c.args in
+    let q = rw (← c.requires.0) at c.requires.1 in
+    let t = wrote_all _ _ q.0 q.1 q.2 c.solve-solved.auto.w _ c.on_the_sky-sky.auto.v c.free_residuals.auto.v in
     let e = c.finish.ensures in
-    run-fitted (run c.before.before.before.before.before.before.before.before.before.before.before.before.before.before.before.before.before.before.before.before.before.before.before.before.before.before.before.before.before.before.before.before.before.before.before.before.before.before.before.before.before.before.before.before.before.before) a.sigma_by a.coefficients.now a.need
-    (buffers a.out.now a.change.now a.sigma.now a.diagnostics.now a.scratch.now)
-    (made c.before.before.before.before.before.before.before.before.before.before.before.before.before.before.before.before.before.before.before.before.before.before.before.before.before.before.before.before.before.before.before) (shown c.before.before.before.before.before.before.before.before.before.before.before.before.before.before.before.before.before) (rest c.before.before.before.before.before.before.before.before.before.before.before.before) c.finish.new.1.1.1.1.1.1.1.1.1.1.0 c.changes.last.1.1.0 c.changed.last.1.1.0 _ _
-    c.solve-solved.result c.on_the_sky-sky.result _ (wrote_all c.before.before.before.before.before.before.before.before.before.before.before.before) c.solve-solved.ensures.solution c.solve-solved.ensures.fits (wrote_change c.before.before.before.before.before.before.before.before.before.before.before.before.before.before.before.before.before.before.before.before.before.before.before.before.before) c.changes.ensures
-    (wrote_set c.before.before.before.before.before.before.before.before.before.before.before.before.before.before.before.before.before.before.before.before.before) c.changed.ensures c.on_the_sky-sky.ensures c.free_residuals.ensures e.0 e.1.0 e.1.1.0 e.1.1.1
+    rw (← c.requires.0)
+    (run-fitted _ a.sigma_by a.coefficients.now a.need (buffers a.out.now a.change.now a.sigma.now a.diagnostics.now a.scratch.now)
+    c.solve-solved.new.w c.on_the_sky-sky.new.v c.free_residuals.new.v c.finish.new.w c.changes.new.change c.changed.new.out _ _
+    c.solve-solved.result c.on_the_sky-sky.result _ t c.solve-solved.ensures.solution c.solve-solved.ensures.fits
+    (record { room = q.4; kept = c.changes.auto.change }) c.changes.ensures (record { room = q.3; kept = c.changed.auto.out }) c.changed.ensures
+    c.on_the_sky-sky.ensures c.free_residuals.ensures e.answer e.sigmas e.stars e.cleared)

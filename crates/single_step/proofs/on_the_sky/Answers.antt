@@ -1,6 +1,6 @@
--- `single_step::on_the_sky` meets its contract. Assumes nothing.
-use Prim.Native.Nat.{◌+◌, ◌*◌, ◌≤◌}
+use Prim.Native.Nat.{ℕ, ◌+◌, ◌*◌, ◌≤◌}
 use native.Mathlib.Omega.{arith}
+use mathlib.Core.Path.{◌≡◌, refl}
 use mathlib.Core.List.{List}
 use lib.ListN.{length}
 use lib.Ieee.{Float}
@@ -8,39 +8,36 @@ use Rattle.sequence.proofs.Only.{length_cut}
 use Rattle.design.proofs.Runs.{seen}
 use Rattle.single_step.proofs.Laws.{again, left_on_sky}
 use Rattle.single_step.proofs.on_the_sky.Goals as goal
-use Rattle.single_step.proofs.on_the_sky.Goals.{After-product, After-subtract_from_differences}
 
--- what v came back as, and its part
-abbrev made : After-product → List Float
-made c = c.product.new.1.1.1.1.1.1.0
-
-abbrev rest : After-subtract_from_differences → List Float
-rest c = c.subtract_from_differences.new.1.1.1.0
-
--- the part that is lent lies in v
-room : (c : After-product) → let n = length c.args.used.now in 2 * n + 2 * n ≤ length (made c)
-room c = omega (arith, c.requires.counted, c.product.auto.1.1.1.1.1.1.0)
+-- the part that is lent lies in v, which came back as v'
+room : (n : ℕ) (v v' : List Float) → length v ≡ 4 * n → length v' ≡ length v → 2 * n + 2 * n ≤ length v'
+room n v v' e k = omega arith
 
 pub product-requires : goal.product-requires
-product-requires c = record { used_value = seen _ c.requires.s_value; seen = (c.requires.s_value.terms, c.requires.s_value.names_count, c.requires.counted) }
+product-requires g c =
+    let r = rw (← c.requires.0) at c.requires.1 in
+    (refl, (seen _ r.0, r.0.terms, r.0.names_count, r.1))
 
 pub subtract_from_differences-requires : goal.subtract_from_differences-requires
-subtract_from_differences-requires c =
-    let n = c.requires.s_value in
-    (n.dd_count, n.used_below, length_cut _ (2 * length c.args.used.now) _ (room c.before.before.before))
+subtract_from_differences-requires g c =
+    let r = rw (← c.requires.0) at c.requires.1 in
+    (r.0.dd_count, r.0.used_below, length_cut _ (2 * length c.args.used.now) _ (room _ _ _ r.1 c.product.auto.v))
 
 pub sum_sq_sky-sum-requires : goal.sum_sq_sky-sum-requires
-sum_sq_sky-sum-requires c =
-    let n = c.requires.s_value in
-    let long = again (made c.before.before.before.before.before.before.before) (rest c.before.before.before) (2 * length c.args.used.now) (room c.before.before.before.before.before.before.before)
-    c.subtract_from_differences.auto.1.1.1.0 in
-    (n.sheets_count, n.used_below, long)
+sum_sq_sky-sum-requires g c =
+    let r = rw (← c.requires.0) at c.requires.1 in
+    let long = again c.product.new.v c.subtract_from_differences.new.b (2 * length c.args.used.now) (room _ _ _ r.1 c.product.auto.v)
+    c.subtract_from_differences.auto.b in
+    (r.0.sheets_count, r.0.used_below, long)
 
 pub sky_of_sum-requires : goal.sky_of_sum-requires
-sky_of_sum-requires c = let n = c.requires.s_value in omega (arith, n.stars, n.used_few)
+sky_of_sum-requires g c =
+    let r = rw (← c.requires.0) at c.requires.1 in
+    omega (arith, r.0.stars, r.0.used_few)
 
 pub returns : goal.returns
-returns c =
-    left_on_sky _ c.args.coefficients.now (made c.before.before.before.before.before.before.before.before.before) (rest c.before.before.before.before.before) _ _ c.requires.s_value (room c.before.before.before.before.before.before.before.before.before)
-    c.product.ensures c.subtract_from_differences.auto.1.1.1.0 c.subtract_from_differences.ensures c.sum_sq_sky-sum.ensures
-    c.sky_of_sum.ensures
+returns g c =
+    let r = rw (← c.requires.0) at c.requires.1 in
+    rw (← c.requires.0)
+    (left_on_sky _ c.args.coefficients.now c.product.new.v c.subtract_from_differences.new.b _ _ r.0 (room _ _ _ r.1 c.product.auto.v)
+    c.product.ensures c.subtract_from_differences.auto.b c.subtract_from_differences.ensures c.sum_sq_sky-sum.ensures c.sky_of_sum.ensures)

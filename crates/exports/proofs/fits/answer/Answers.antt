@@ -4,7 +4,7 @@ use Rattle.exports.specs.Fits.{fit_answer}
 use Rattle.exports.proofs.fits.answer.Goals as goal
 
 pub returns-in-Done : goal.returns-in-Done
-returns-in-Done c = c.given.ensures ∙ ap fit_answer (sym c.fit-1.given.1)
+returns-in-Done c = c.given.ensures ∙ ap fit_answer (sym c.in-Done.is)
 
 pub returns-in-Refused : goal.returns-in-Refused
-returns-in-Refused c = c.refused.ensures ∙ ap fit_answer (sym c.fit-in-Refused-1.given.1)
+returns-in-Refused c = c.refused.ensures ∙ ap fit_answer (sym c.in-Refused.is)

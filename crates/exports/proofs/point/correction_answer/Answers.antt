@@ -4,7 +4,7 @@ use Rattle.exports.specs.Point.{correction_answer}
 use Rattle.exports.proofs.point.correction_answer.Goals as goal
 
 pub returns-in-Given : goal.returns-in-Given
-returns-in-Given c = c.given_pair.ensures ∙ ap correction_answer (sym c.c-1.given.1)
+returns-in-Given c = c.given_pair.ensures ∙ ap correction_answer (sym c.in-Given.is)
 
 pub returns-in-Refused : goal.returns-in-Refused
-returns-in-Refused c = c.refused_pair.ensures ∙ ap correction_answer (sym c.c-in-Refused-1.given.1)
+returns-in-Refused c = c.refused_pair.ensures ∙ ap correction_answer (sym c.in-Refused.is)

@@ -4,7 +4,7 @@ use Rattle.exports.specs.Point.{pair_answer}
 use Rattle.exports.proofs.point.pair_answer.Goals as goal
 
 pub returns-in-Given : goal.returns-in-Given
-returns-in-Given c = c.given_pair.ensures ∙ ap pair_answer (sym c.j-1.given.1)
+returns-in-Given c = c.given_pair.ensures ∙ ap pair_answer (sym c.in-Given.is)
 
 pub returns-in-Refused : goal.returns-in-Refused
-returns-in-Refused c = c.refused_pair.ensures ∙ ap pair_answer (sym c.j-in-Refused-1.given.1)
+returns-in-Refused c = c.refused_pair.ensures ∙ ap pair_answer (sym c.in-Refused.is)

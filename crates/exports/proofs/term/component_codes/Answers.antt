@@ -15,7 +15,7 @@ blank A f s out p q = record { long = q ∙ sym p; written = refl }
 
 pub loop-i-init : goal.loop-i-init
 loop-i-init c =
-    let seven : length c.args.t1 ≡ 7 = search unmapped in
+    let seven : length c.args.list ≡ 7 = search unmapped in
     (omega arith, seven, blank _ _ _ _ seven refl, blank _ _ _ _ seven refl, blank _ _ _ _ seven refl)
 
 pub loop-i-preserved : goal.loop-i-preserved

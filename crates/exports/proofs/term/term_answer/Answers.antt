@@ -13,7 +13,7 @@ returns c =
     rw (
       eq-eqb _ 0 c.if-r-ne0.false,
       c.kind_code.ensures,
-      c.number_of_lem.ensures,
+      c.number_of.ensures,
       c.result_of.ensures,
       c.component_codes-codes.ensures,
     )
