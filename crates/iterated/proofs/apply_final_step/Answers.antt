@@ -2,7 +2,7 @@ use Prim.Native.Nat.{◌*◌, ◌≤◌}
 use native.Mathlib.Omega.{arith}
 use mathlib.Core.Path.{◌≡◌, refl, sym, ap, ◌∙◌}
 use mathlib.Core.List.{List}
-use lib.ListN.{length, take}
+use lib.ListN.{length}
 use lib.Seq.{length-take-le}
 use lib.Ieee.{Float}
 use Rattle.design.specs.Design.{RunInputs}
@@ -70,7 +70,7 @@ returns g c =
     rw (← c.requires.0)
     (tried_last f last a.options a.chi2 k _ _ _
     (elim c.if-last-chi2.branch [
-      then-last-chi2 w ↦ let p = last_kept f last a.options a.chi2 k _ w.if-last-chi2.true w.copy.ensures in (w.set-is ∙ p.0, w.least-is ∙ p.1)
-    | else-last-chi2 w ↦ let p = last_not f last a.options a.chi2 k w.if-last-chi2.false in (w.set-is ∙ p.0, w.least-is ∙ p.1)
+      | then-last-chi2 w ↦ let p = last_kept f last a.options a.chi2 k _ w.if-last-chi2.true w.copy.ensures in (w.set-is ∙ p.0, w.least-is ∙ p.1)
+      | else-last-chi2 w ↦ let p = last_not f last a.options a.chi2 k w.if-last-chi2.false in (w.set-is ∙ p.0, w.least-is ∙ p.1)
     ])
     (record { room = room _ _ _ q.0 c.propose-last.auto.w; kept = under.auto.v }) under.ensures)

@@ -38,8 +38,7 @@ fit_run-requires g c =
     let a = c.args in
     let p = rw (← c.requires.0) at c.requires.1 in
     let e = c.collect_indices-free.ensures in
-    let l = inputs a.names.now a.fixed.now a.coefficients.now a.dh.now a.dd.now a.pier.now a.sheets.now a.s in
-    (
+    let l = inputs a.names.now a.fixed.now a.coefficients.now a.dh.now a.dd.now a.pier.now a.sheets.now a.s in (
       refl,
       run_ready l _ _ (listed_is l _ _ _ _ _ e.count e.listed c.all_indices.ensures) c.scratch_needed-need.ensures
           (buffers a.out.now a.change.now a.sigma.now a.diagnostics.now a.scratch.now) p,

@@ -117,8 +117,7 @@ apply_final_step-last-requires g c =
     let looped = again begun c.run_lm_loop-lm.auto.set in
     let worked : Renewed c.args.scratch.now c.run_lm_loop-lm.new.w c.args.need = lent q.2 c.run_lm_loop-lm.auto.w in
     let a = c.args in
-    let l = run_inputs (length a.coefficients.now) a.names.now a.free.now a.dh.now a.dd.now a.pier.now a.sheets.now a.used.now a.s in
-    (
+    let l = run_inputs (length a.coefficients.now) a.names.now a.free.now a.dh.now a.dd.now a.pier.now a.sheets.now a.used.now a.s in (
       refl,
       (
         fits_front l _ a.need _ (front_count looped) q.0 q.1 (front_fits worked),
