@@ -23,4 +23,5 @@ unfolding counts_line
 returns c =
     let counts = wrote_then (wrote_then (wrote_then c.put_bytes-a.ensures c.put_count-b.ensures.wrote) c.put_count-c.ensures.wrote)
     c.put_count-d.ensures.wrote in
-    let flags = wrote_then (wrote_then (wrote_then counts c.put_flag-e.ensures.wrote) c.put_count-f.ensures.wrote) c.put_flag-g.ensures.wrote in record { wrote = wrote_then flags c.put_byte.ensures; bound = omega arith }
+    let flags = wrote_then (wrote_then (wrote_then counts c.put_flag-e.ensures.wrote) c.put_count-f.ensures.wrote) c.put_flag-g.ensures.wrote in
+    record { wrote = wrote_then flags c.put_byte.ensures; bound = omega arith }

@@ -13,7 +13,9 @@ abbrev pub line_of : List ℕ → List Float → List Float → ℕ → List ℕ
 line_of names coefficients sigma j = term_line (part names (16 * j) 16) (at coefficients j) (at sigma j)
 
 abbrev pub invariant-loop-j : goal.invariant-loop-j
-invariant-loop-j l = (l.j ≤ l.m) × (length l.out ≡ length l.initial.out) × (l.next ≤ l.at + 56 * l.j) × Wrote (concat_to l.j (line_of l.names l.coefficients l.sigma)) l.at l.initial.out l.out l.next
+invariant-loop-j l =
+    (l.j ≤ l.m) × (length l.out ≡ length l.initial.out) × (l.next ≤ l.at + 56 * l.j)
+    × Wrote (concat_to l.j (line_of l.names l.coefficients l.sigma)) l.at l.initial.out l.out l.next
 
 abbrev pub decreases-loop-j : goal.decreases-loop-j
 decreases-loop-j l = l.m - l.j

@@ -1,4 +1,3 @@
--- `pmf::list_fields` meets its contract. Assumes nothing.
 use Prim.Native.Nat.{◌+◌, ◌*◌, ◌-◌}
 use native.Mathlib.Nat.{add-sub_cancel_left}
 use native.Mathlib.Omega.{arith}
@@ -15,7 +14,7 @@ pub list_input-requires : goal.list_input-requires
 list_input-requires c =
     let a = c.args in
     let p = c.requires in
-    let e = ap length p.3.coefficients_are ∙ table-length _ (term_count a.s.now) in record { settings_value = refl; listing_room_in_bounds = (p.0, omega (arith, p.1.terms, e)) }
+    let e = ap length p.3.coefficients_are ∙ table-length _ (term_count a.s.now) in (refl, (p.0, omega (arith, p.1.terms, e)))
 
 pub returns : goal.returns
 returns c =
