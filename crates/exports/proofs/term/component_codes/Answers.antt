@@ -5,7 +5,7 @@ use lib.ListN.{length}
 use native.Mathlib.Omega.{arith}
 use Rattle.harmonic.specs.Harmonic.{blank_component}
 use Rattle.sequence.proofs.Parts.{unmapped}
-use Rattle.exports.specs.Term.{function_code, coordinate_code, codes_of}
+use Rattle.exports.specs.Term.{codes_of}
 use Rattle.exports.proofs.Mapped.{Mapped, mapped_next, mapped_end}
 use Rattle.exports.proofs.term.component_codes.Invariants.{coordinate_of, frequency_of, function_of}
 use Rattle.exports.proofs.term.component_codes.Goals as goal
