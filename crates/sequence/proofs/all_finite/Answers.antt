@@ -12,8 +12,8 @@ loop-i-preserved c =
     let t = c.loop-i.invariant in
     let is = c.is_finite.ensures in
     elim c.if-not-is_finite.branch [
-      then-not-is_finite w ↦ rw w.all-is (tested_fails nan t (omega arith) (was_no is w.if-not-is_finite.true-raw))
-    | else-not-is_finite w ↦ rw w.all-is (tested_holds nan t (omega arith) (was_yes is w.if-not-is_finite.false-raw))
+      | then-not-is_finite w ↦ rw w.all-is (tested_fails nan t (omega arith) (was_no is w.if-not-is_finite.true-raw))
+      | else-not-is_finite w ↦ rw w.all-is (tested_holds nan t (omega arith) (was_yes is w.if-not-is_finite.false-raw))
     ]
 
 pub returns : goal.returns
