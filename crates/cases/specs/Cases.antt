@@ -1,7 +1,7 @@
 -- The cases of docs/SCOPE.md 12.1 as one table. Starred there: every row but the last five, HXSHCD2, TX2 and the four stars, and the one before
 -- them, the iterated file case.
 -- Definitions only.
-use Rattle.std.specs.Prelude.{ℕ, zero, suc, ◌+◌, ◌*◌, ◌≡◌, Bool, true, false, List, [], ◌∷◌, ◌++◌, map, length, replicate, Float}
+use Rattle.std.specs.Prelude.{ℕ, zero, suc, ◌+◌, ◌*◌, ◌≡◌, Bool, true, false, List, [], ◌∷◌, ◌++◌, map, length, replicate, Float, Result, Ok, Err}
 use Prim.Native.String.{String}
 use Rattle.std.specs.Float.{inf, binary64}
 use Rattle.std.specs.Float.Ieee.{of_bits, neg}
@@ -16,14 +16,14 @@ use Rattle.harmonic.specs.declared.TrigFunc.{TrigFunc}
 use Rattle.harmonic.specs.declared.Coordinate.{Coordinate}
 use Rattle.harmonic.specs.declared.ResultType.{ResultType}
 use Rattle.harmonic.specs.declared.HarmonicComponent.{HarmonicComponent}
-use Rattle.terms.specs.Names.{padded, read_term, accepted, refused}
+use Rattle.refusal.specs.Refusal.{number_of}
+use Rattle.refusal.specs.declared.Refusal.{Refusal}
+use Rattle.terms.specs.Names.{padded, read_term, named, term_or_blank}
 use Rattle.terms.specs.Jacobian.{jacobian_of}
+use Rattle.terms.specs.declared.TermKind.{TermKind}
 use Rattle.terms.specs.declared.TermKind.TheVariants.{Equatorial, Harmonic}
-use Rattle.terms.specs.declared.Reading.{Reading}
-use Rattle.terms.specs.declared.answer.Jacobian.{Jacobian}
-use Rattle.terms.specs.declared.answer.Jacobian.TheVariants.{Given}
-use Rattle.solver.specs.declared.Fit.{Fit}
-use Rattle.solver.specs.declared.Fit.TheVariants.{Done, Refused}
+use Rattle.terms.specs.declared.Term.{Term}
+use Rattle.solver.specs.declared.FitResult.{FitResult}
 use Rattle.solver.specs.Call.{FitInputs, Buffers, settings_of, inputs, buffers}
 use Rattle.validate.specs.Questions.{scratch_needed}
 use Rattle.solver.specs.Records.{defaults}
@@ -35,18 +35,23 @@ use Rattle.outcome.specs.Outcome.{Outcome}
 use Rattle.single_step.specs.SingleStep.{fit_outcome}
 use Rattle.iterated.specs.Iterated.{iterated_outcome}
 
--- an answer of a public call: a reading, or whether its term is pier sensitive; of a fit the coefficients and the rank, or the coefficients, the sky RMS
--- and each star's leverage, or sigma's divisor and the sigmas, or the coefficients, the iterations, whether it converged, and the step norm; with the
--- first and the last of these also the sweeps, and whether they settled
+-- an answer of a public call: a term, or whether it is pier sensitive, or its Jacobian; of a fit the coefficients and the rank, or the coefficients, the
+-- sky RMS and each star's leverage, or sigma's divisor and the sigmas, or the coefficients, the iterations, whether it converged, and the step norm; with
+-- the first and the last of these also the sweeps, and whether they settled; or a refusal's number
 pub data Answer : Type 0 where
-  reading : Reading → Answer
+  reading : Term → Answer
   sensitive : Bool → Answer
-  jacobian : Jacobian → Answer
+  jacobian : Pair → Answer
   refusal : ℕ → Answer
   ranked : List Float → ℕ → ℕ → Bool → Answer
   measured : List Float → Float → List Float → Answer
   divided : ℕ → List Float → Answer
   looped : List Float → ℕ → Bool → Float → ℕ → Bool → Answer
+
+-- what is shown of an answer, or of a refusal
+abbrev pub shown : {A : Type 0} → (A → Answer) → Result A Refusal → Answer
+shown f (Ok a) = f a
+shown f (Err why) = refusal (number_of why)
 
 pub record Case : Type 0 where
   pub got : Answer
@@ -57,13 +62,17 @@ pub record Case : Type 0 where
 abbrev pub slot_of : String → List ℕ
 slot_of s = padded (ascii s)
 
--- the name s in its slot is read as r
-abbrev pub reads : String → Reading → Case
-reads s r = record { got = reading (read_term (slot_of s)); wanted = reading r }
+-- the name s in its slot is read so
+abbrev pub reads : String → Answer → Case
+reads s a = record { got = shown reading (read_term (slot_of s)); wanted = a }
+
+-- the term of a kind and a stored name
+abbrev pub term : TermKind → String → Answer
+term kind s = reading (named kind (slot_of s))
 
 -- the term of the name s is pier sensitive, or not
 abbrev pub turns : String → Bool → Case
-turns s b = record { got = sensitive (read_term (slot_of s)).term.pier_sensitive; wanted = sensitive b }
+turns s b = record { got = sensitive (term_or_blank (read_term (slot_of s))).pier_sensitive; wanted = sensitive b }
 
 abbrev component : TrigFunc → Coordinate → ℕ → HarmonicComponent
 component f c k = record { func = f; coord = c; frequency = k }
@@ -85,7 +94,7 @@ east = 1
 
 -- the name s at such a sheet and the latitude 0 has the Jacobian p
 abbrev pub has_jacobian : String → Float → ℕ → Pair → Case
-has_jacobian s c pier p = record { got = jacobian (jacobian_of (slot_of s) (sheet c) #0 #1 pier); wanted = jacobian (Given p) }
+has_jacobian s c pier p = record { got = shown jacobian (jacobian_of (slot_of s) (sheet c) #0 #1 pier); wanted = jacobian p }
 
 -- ---- fits
 
@@ -128,13 +137,11 @@ exact_room n = buffers (#0 ∷ []) (#0 ∷ []) (#0 ∷ []) (replicate (3 * n) #0
 abbrev pub stepped : SigmaBy → List Float → Outcome
 stepped by dd = fit_outcome (run dd) by (exact_room (length dd))
 
-abbrev pub ranked_by : Fit → List Float → Answer
-ranked_by (Done r) cs = ranked cs r.rank_info.rank r.sweeps r.settled
-ranked_by (Refused k) cs = refusal k
+abbrev pub ranked_by : Result FitResult Refusal → List Float → Answer
+ranked_by a cs = shown (λ r. ranked cs r.rank_info.rank r.sweeps r.settled) a
 
-abbrev pub measured_by : Fit → List Float → List Float → Answer
-measured_by (Done r) cs ls = measured cs r.sky_rms ls
-measured_by (Refused k) cs ls = refusal k
+abbrev pub measured_by : Result FitResult Refusal → List Float → List Float → Answer
+measured_by a cs ls = shown (λ r. measured cs r.sky_rms ls) a
 
 -- the file case
 abbrev pub file_case : Case
@@ -152,10 +159,9 @@ at_once = record {
   huber_k = defaults.huber_k;
 }
 
-abbrev pub looped_by : Fit → List Float → Answer
-looped_by (Done r) cs =
-    looped cs r.iter_report.iterations r.iter_report.converged r.iter_report.final_step_norm r.sweeps r.settled
-looped_by (Refused k) cs = refusal k
+abbrev pub looped_by : Result FitResult Refusal → List Float → Answer
+looped_by a cs =
+    shown (λ r. looped cs r.iter_report.iterations r.iter_report.converged r.iter_report.final_step_norm r.sweeps r.settled) a
 
 abbrev pub file_case_iterated : Case
 file_case_iterated =
@@ -175,9 +181,8 @@ four_stars =
     let o = stepped Stars four in
     record { got = measured_by o.answer o.left.coefficients (leverages 4 o.left.diagnostics); wanted = measured (#15 ∷ []) #5 (replicate 4 quarter) }
 
-abbrev pub divided_by : SigmaBy → ℕ → Fit → List Float → Answer
-divided_by by n (Done r) sigmas = divided (divisor by n r.rank_info.rank) sigmas
-divided_by by n (Refused k) sigmas = refusal k
+abbrev pub divided_by : SigmaBy → ℕ → Result FitResult Refusal → List Float → Answer
+divided_by by n a sigmas = shown (λ r. divided (divisor by n r.rank_info.rank) sigmas) a
 
 -- the four stars by either: the squares of their residuals are 100, the covariance is 1/4
 abbrev pub four_stars_by : SigmaBy → ℕ → Float → Case
@@ -196,16 +201,16 @@ sigma_by_rows = of_bits binary64 0x3ffe_3cb6_6051_f5e0
 
 abbrev pub starred_cases : List Case
 starred_cases =
-    reads "ih" (accepted (Equatorial IH) (ascii "IH") (array_of [])) ∷
-    reads "tx+05" (accepted (Equatorial (TXN 5)) (ascii "TX5") (array_of [])) ∷
-    reads "TX0" (refused 9) ∷
-    reads "TX256" (refused 9) ∷
-    reads "" (refused 7) ∷
-    reads "NPAE" (refused 8) ∷
-    reads "HCES" (accepted (Equatorial HCES) (ascii "HCES") (array_of [])) ∷
-    reads "HHS" (refused 10) ∷
-    reads "HHSH0" (refused 10) ∷
-    reads "HHSH12" (refused 10) ∷
+    reads "ih" (term (Equatorial IH) "IH") ∷
+    reads "tx+05" (term (Equatorial (TXN 5)) "TX5") ∷
+    reads "TX0" (refusal 9) ∷
+    reads "TX256" (refusal 9) ∷
+    reads "" (refusal 7) ∷
+    reads "NPAE" (refusal 8) ∷
+    reads "HCES" (term (Equatorial HCES) "HCES") ∷
+    reads "HHS" (refusal 10) ∷
+    reads "HHSH0" (refusal 10) ∷
+    reads "HHSH12" (refusal 10) ∷
     has_jacobian "CH" half west (pair_of #2 #0) ∷
     has_jacobian "IH" #1 east (pair_of (neg #1) #0) ∷
     turns "ID" true ∷
@@ -217,7 +222,9 @@ starred_cases =
     file_case ∷
     file_case_iterated ∷
     reads "HXSHCD2"
-    (accepted (Harmonic ResultType.X) (ascii "HXSHCD2") (array_of (component TrigFunc.Sin Coordinate.H 1 ∷ component TrigFunc.Cos Coordinate.D 2 ∷ []))) ∷
+    (term
+    (Harmonic (record { result = ResultType.X; components = array_of (component TrigFunc.Sin Coordinate.H 1 ∷ component TrigFunc.Cos Coordinate.D 2 ∷ []) }))
+    "HXSHCD2") ∷
     has_jacobian "TX2" #1 east (pair_of #0 #0) ∷
     four_stars ∷
     four_stars_by Stars 3 sigma_by_stars ∷

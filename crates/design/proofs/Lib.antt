@@ -4,3 +4,4 @@ pub mod Terms
 pub mod Indices
 pub mod Runs
 pub mod Matrix
+pub mod Lists

@@ -2,7 +2,7 @@
 -- Assumes nothing.
 use Prim.Native.Nat.{ℕ, zero, suc, ◌+◌, ◌-◌, ◌*◌, ◌≤◌, ◌<◌}
 use native.Mathlib.Omega.{arith}
-use mathlib.Core.Path.{◌≡◌, refl, sym, ap, ap₂, ◌∙◌}
+use mathlib.Core.Path.{◌≡◌, refl, sym, ap, ◌∙◌}
 use mathlib.Core.Bool.{Bool, true, false, cond}
 use mathlib.Core.List.{List, [], ◌∷◌, ◌++◌, map, zip_with, map-append, append-nil, append_assoc}
 use lib.ListN.{length, get_or, take, drop, replicate, get_or-append}
@@ -15,7 +15,6 @@ use Rattle.sequence.proofs.Fills.{last_or}
 use Rattle.sequence.proofs.Concat.{concat_length}
 use Rattle.sequence.proofs.Only.{length_cut, only_none, only_wider, only_then, back, back_only, back_part}
 use Rattle.solver.specs.declared.Settings.{Settings}
-use Rattle.terms.specs.declared.Term.{Term}
 use Rattle.design.specs.Design.{Star, star_at, sights_at, term_at, star_jacobian, cos_dec, sky_column, weighed, weighing, weighed_at, stacked}
 use Rattle.design.specs.Matrix.{Matrix, matrix_of, hour_entry, dec_entry, entries, FilledUpTo, FillsColumn, HasRoom}
 use Rattle.design.proofs.Rows.{star_by_star}
@@ -97,7 +96,7 @@ part_split : (l : List Float) (i n k : ℕ) → part l i (n + k) ≡ part l i n 
 part_split l i n k = take-add n k (drop i l) ∙ ap (λ (r : List Float). take n (drop i l) ++ take k r) (drop-drop n i l)
 
 -- a column a of n numbers has been written at x, and h - n zeros below it
-deepened : (w w₁ ys a : List Float) (x n h : ℕ) → n ≤ h → x + h ≤ length w → part w₁ x n ≡ a → Only x n w w₁
+pub deepened : (w w₁ ys a : List Float) (x n h : ℕ) → n ≤ h → x + h ≤ length w → part w₁ x n ≡ a → Only x n w w₁
     → length ys ≡ length (take (x + n + (h - n) - (x + n)) (drop (x + n) w₁))
     → ys ≡ replicate (length (take (x + n + (h - n) - (x + n)) (drop (x + n) w₁))) #0
     → (part (back w₁ ys (x + n) (h - n)) x h ≡ a ++ replicate (h - n) #0) × Only x h w (back w₁ ys (x + n) (h - n))
@@ -145,35 +144,26 @@ module _ {a : Matrix} {c h : ℕ} where
             ∙ ap (λ (t : List Float). at t q) (p.filled k g)
             ∙ get_or-append (entries a k) (replicate (h - 2 * a.n) #0) nan q e
 
-module _ (names free pier : List ℕ) (sheets : List Float) (used : List ℕ) (c h : ℕ) (w : List Float) (r : HasRoom names free pier sheets used c h w) (j : ℕ)
-    (l : j < length free) where
-  -- column j ends within the list
-  pub column-room : c + j * h + h ≤ length w
-  column-room = omega (arith, apart j (length free) h l, r.columns_fit)
+-- column j ends within a list that has room for all
+pub column_room : (c j m h n : ℕ) → c + m * h ≤ n → j < m → c + j * h + h ≤ n
+column_room c j m h n fits l = omega (arith, apart j m h l)
 
-  -- the term's column has been written, w₁, and then zeros below it
-  pub column-filled : (s : Settings) (k : Float) (w₁ ys : List Float) (t : Term) → t ≡ term_at names (get_or free j 0)
-      → part w₁ (c + j * h) (2 * length used) ≡ weighing k (part w (6 * length used) (2 * length used)) (sky_column s (sights_at pier sheets used) t)
-      → Only (c + j * h) (2 * length used) w w₁
-      → length ys ≡ length (take (c + j * h + 2 * length used + (h - 2 * length used) - (c + j * h + 2 * length used)) (drop (c + j * h + 2 * length used) w₁))
-      → ys ≡ replicate (length (take (c + j * h + 2 * length used + (h - 2 * length used) - (c + j * h + 2 * length used))
-      (drop (c + j * h + 2 * length used) w₁))) #0
-      → FillsColumn (matrix_of names free pier sheets used s k) c h j w (back w₁ ys (c + j * h + 2 * length used) (h - 2 * length used))
-  column-filled s k w₁ ys t is e o kept zeros was p =
-      let n = length used in
-      let same : part w (6 * n) (2 * n) ≡ part was (6 * n) (2 * n) = p.outside.below (6 * n) (2 * n) (omega (arith, r.behind)) in
-      let there =
-      e
-      ∙ ap₂ (λ (b : List Float) (u : Term). weighing k b (sky_column s (sights_at pier sheets used) u)) same is
-      ∙ sym (entries_are names free pier sheets used s k was (omega (arith, r.behind, r.columns_fit, p.outside.long)) j) in
-      let d = deepened w w₁ ys _ (c + j * h) (2 * n) h r.rows_fit column-room there o kept zeros in
-      filled_next p _ l d.0 d.1
-
--- a list as long has room too
-pub room_as : {names free pier : List ℕ} {sheets : List Float} {used : List ℕ} {c h : ℕ} {w : List Float} → HasRoom names free pier sheets used c h w
-    → (v : List Float) → length v ≡ length w → HasRoom names free pier sheets used c h v
-room_as r v e =
-    record { named = r.named; seen = r.seen; rows_fit = r.rows_fit; behind = r.behind; columns_fit = rw e r.columns_fit }
+-- column j has been written, with zeros below it
+pub filled_turn : (names free pier : List ℕ) (sheets : List Float) (used : List ℕ) (s : Settings) (k : Float) (c h j : ℕ) (before after : List Float)
+    → 8 * length used ≤ c → c + length free * h ≤ length before → j < length free
+    → part after (c + j * h) h
+    ≡ weighed_at k (part before (6 * length used) (2 * length used)) s (sights_at pier sheets used) names (get_or free j 0) ++ replicate (h - 2 * length used) #0
+    → Only (c + j * h) h before after → FillsColumn (matrix_of names free pier sheets used s k) c h j before after
+filled_turn names free pier sheets used s k c h j before after behind fits l e o was p =
+    let n = length used in
+    let zeros = replicate (h - 2 * n) #0 in
+    let same : part before (6 * n) (2 * n) ≡ part was (6 * n) (2 * n) = p.outside.below (6 * n) (2 * n) (omega arith) in
+    let are = entries_are names free pier sheets used s k was (omega (arith, p.outside.long)) j in
+    let there =
+    e
+    ∙ ap (λ (b : List Float). weighed_at k b s (sights_at pier sheets used) names (get_or free j 0) ++ zeros) same
+    ∙ ap (λ (a : List Float). a ++ zeros) (sym are) in
+    filled_next p after l there o
 
 -- ---- the whole, as the solver reads it
 

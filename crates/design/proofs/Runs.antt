@@ -2,13 +2,13 @@
 use Prim.Native.Nat.{ℕ, ◌+◌, ◌*◌, ◌≤◌}
 use native.Mathlib.Nat.{mul-le-mul_right}
 use native.Mathlib.Omega.{arith}
-use mathlib.Core.Path.{◌≡◌, sym, ap, fun_ext}
+use mathlib.Core.Path.{◌≡◌, refl, sym, ap, fun_ext}
 use mathlib.Core.List.{List, []}
 use lib.ListN.{length, get_or}
 use lib.Ieee.{Float}
 use Rattle.terms.specs.Names.{read_term}
 use Rattle.terms.specs.Slots.{slot}
-use Rattle.terms.proofs.First.{first_each}
+use Rattle.terms.proofs.First.{ok_each}
 use Rattle.design.specs.Design.{RunInputs, run_inputs, run_from, stars_at, sights_at, term_at, rows_of, height_of, column_of, sky_of}
 use Rattle.design.specs.Design.{column, sky_column, differences, sky_differences, sky_rows}
 use Rattle.design.specs.Counted.{Seen, Named, Read, Counted}
@@ -19,9 +19,6 @@ abbrev pub with_terms : RunInputs → ℕ → RunInputs
 with_terms l m = run_inputs m l.names l.free l.dh l.dd l.pier l.sheets l.used l.settings
 
 module _ (l : RunInputs) where
-  pub counted_as : (m : ℕ) → m ≡ l.m → Counted l → Counted (with_terms l m)
-  counted_as m e c = rw e c
-
   -- ---- how many
 
   pub count_is : length l.used ≡ length (run_from l).stars
@@ -66,7 +63,7 @@ module _ (l : RunInputs) where
     named i h = omega (arith, c.free_below i h, c.names_count)
 
     pub read : Read l.names l.free
-    read i h = first_each (λ j. (read_term (slot l.names j)).refusal) l.m c.names_read (get_or l.free i 0) (c.free_below i h)
+    read i h = rw (ok_each (λ j. read_term (slot l.names j)) l.m c.names_read (get_or l.free i 0) (c.free_below i h)).1 refl
 
     -- the free terms' columns take no more room than those of all terms
     pub free_room : (h : ℕ) → length l.free * h ≤ l.m * h

@@ -9,16 +9,10 @@ use Rattle.float.specs.Float.{◌⊗◌}
 use Rattle.sequence.specs.Sequence.{at}
 use Rattle.solver.specs.declared.Settings.{Settings}
 use Rattle.terms.specs.declared.Term.{Term}
-use Rattle.design.specs.Design.{Star, sheet_at, star_at, stars_at, sights_at, cos_dec}
+use Rattle.design.specs.Design.{sheet_at, star_at, stars_at, sights_at, cos_dec}
 use Rattle.design.specs.Design.{pairs, column, sky_column, differences, sky_differences, sky_rows}
 use Rattle.design.proofs.Rows as rows
 pub use Rattle.design.proofs.Rows.{sky_rows-length}
-
--- ---- how many rows
-
-pub sky_column-length : (c : Settings) (ss : List Star) (t : Term) → length (sky_column c ss t) ≡ 2 * length ss
-unfolding sky_column
-sky_column-length c ss t = rows.rows-length _ _ ss
 
 module _ (dh dd : List Float) (pier : List ℕ) (sheets : List Float) (used : List ℕ) where
   pub stars_count : length (stars_at dh dd pier sheets used) ≡ length used

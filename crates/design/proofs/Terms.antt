@@ -2,14 +2,14 @@
 use Prim.Native.Nat.{ℕ, ◌+◌, ◌-◌, ◌≤◌, ◌<◌}
 use native.Mathlib.Omega.{arith}
 use mathlib.Core.Path.{◌≡◌, refl, sym, ap, ◌∙◌}
-use mathlib.Core.Logic.{inl, inr, ⊎_elim}
+use mathlib.Core.Logic.{⊎_elim}
 use mathlib.Core.Bool.{Bool, true, false, cond}
 use mathlib.Core.List.{List, ◌++◌, zip_with}
 use lib.ListN.{length, take, drop, replicate, length-replicate}
 use lib.Seq.{sets, length-take-le, take_at, drop_at}
 use lib.Ieee.{Float, lt}
 use Rattle.float.specs.Float.{#0}
-use Rattle.sequence.specs.Sequence.{part, each, Beside, Only}
+use Rattle.sequence.specs.Sequence.{part, each, Only}
 use Rattle.sequence.proofs.Parts.{length_part, part_sets_same, length-zip, length_zip_part}
 use Rattle.sequence.proofs.Fills.{each_none, each_next, each_end}
 use Rattle.sequence.proofs.Only.{only_sets, only_wider, only_then, back, back_long, back_only, back_part}
@@ -50,9 +50,6 @@ weighing_long k b a e = go (lt #0 k)
     go : (t : Bool) → length (cond t (zip_with (weighed k) b a) a) ≡ length a
     go true = length-zip (weighed k) b a e ∙ e
     go false = refl
-
-pub apart_beside : (x n y : ℕ) → Apart x n y → Beside x y n
-apart_beside x n y = ⊎_elim (λ h. inl (omega arith)) (λ h. inr h)
 
 -- a column a has been written at x and weighed by the residuals at y
 pub weighs : (k : Float) (w ys w' a : List Float) (x n y : ℕ) → Apart x n y → x + n ≤ length w → y + n ≤ length w

@@ -1,8 +1,8 @@
 -- What the loops over stars and terms count on. Definitions only.
-use Rattle.std.specs.Prelude.{ℕ, ◌+◌, ◌*◌, ◌≤◌, ◌<◌, ◌⊎◌, ◌≡◌, List, length, get_or, Float}
+use Rattle.std.specs.Prelude.{ℕ, ◌+◌, ◌*◌, ◌≤◌, ◌<◌, ◌⊎◌, ◌≡◌, List, length, get_or, Float, Ok, IsOk}
 use Rattle.limits.specs.Limits.{max_terms, max_stars, slot_bytes, sheet_numbers}
 use Rattle.terms.specs.Names.{read_term}
-use Rattle.terms.specs.Slots.{slot, names_refusal}
+use Rattle.terms.specs.Slots.{slot, names_read}
 use Rattle.design.specs.Design.{RunInputs}
 
 -- every index is below n
@@ -22,13 +22,13 @@ Named names free = (i : ℕ) → i < length free → slot_bytes * get_or free i 
 
 -- whose name is read
 abbrev pub Read : List ℕ → List ℕ → Type 0
-Read names free = (i : ℕ) → i < length free → (read_term (slot names (get_or free i 0))).refusal ≡ 0
+Read names free = (i : ℕ) → i < length free → IsOk (read_term (slot names (get_or free i 0)))
 
 -- a run: at most 32 terms, whose names are read and of which some are free, at most 1,024 stars, and no fewer that count than free terms
 pub record Counted (l : RunInputs) : Type 0 where
   pub terms : l.m ≤ max_terms
   pub names_count : length l.names ≡ slot_bytes * l.m
-  pub names_read : names_refusal l.names l.m ≡ 0
+  pub names_read : names_read l.names l.m ≡ Ok tt
   pub some_free : 0 < length l.free
   pub free_few : length l.free ≤ l.m
   pub free_below : Below l.m l.free

@@ -12,7 +12,7 @@ use Rattle.observation.specs.Observation.{sign_of, side_of}
 use Rattle.observation.specs.Sheet.{place_dec, point_of}
 use Rattle.observation.specs.declared.Pair.{Pair}
 use Rattle.observation.specs.declared.Point.{Point}
-use Rattle.terms.specs.Names.{read_term}
+use Rattle.terms.specs.Names.{read_term, term_or_blank}
 use Rattle.terms.specs.Slots.{slot}
 use Rattle.terms.specs.Jacobian.{term_jacobian}
 use Rattle.terms.specs.declared.Term.{Term}
@@ -65,7 +65,7 @@ collect_indices flags = kept flags (up_to (length flags))
 
 -- the name of term j lies in the 16 bytes that begin at 16·j
 abbrev pub term_at : List ℕ → ℕ → Term
-term_at names j = (read_term (slot names j)).term
+term_at names j = term_or_blank (read_term (slot names j))
 
 -- its stars, m terms, the indices of the free ones, and the settings
 pub record Run : Type 0 where

@@ -1,2 +1,1 @@
-pub mod Zenith
 pub mod Codes

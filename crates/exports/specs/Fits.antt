@@ -1,16 +1,16 @@
 -- A fit's answer as a C struct, and its outcome as a C call has it. Definitions only.
-use Rattle.std.specs.Prelude.{ℕ, ◌≡◌, false, cond, List, ltb, eqb, length, take, Float}
+use Rattle.std.specs.Prelude.{ℕ, ◌≡◌, false, cond, List, eqb, length, take, Float, Option, None, Some, Result, Ok, Err, ⊤}
 use Rattle.float.specs.Float.{#0}
-use Rattle.solver.specs.declared.Fit.{Fit}
-use Rattle.solver.specs.declared.Fit.TheVariants.{Done, Refused}
+use Rattle.refusal.specs.Refusal.{number_of}
+use Rattle.refusal.specs.declared.Refusal.{Refusal}
+use Rattle.refusal.specs.declared.Refusal.TheVariants.{Code}
 use Rattle.solver.specs.declared.FitResult.{FitResult}
 use Rattle.solver.specs.declared.IterOptions.{IterOptions}
 use Rattle.solver.specs.declared.SigmaBy.{SigmaBy}
 use Rattle.solver.specs.declared.SigmaBy.TheVariants.{Stars, Rows}
 use Rattle.solver.specs.declared.Sizes.{Sizes}
 use Rattle.solver.specs.Call.{FitInputs, Buffers, sizes_of}
-use Rattle.terms.specs.Questions.{first_no}
-use Rattle.validate.specs.Questions.{numbers_asked, no_options}
+use Rattle.validate.specs.Questions.{answered, numbers_asked, no_options}
 use Rattle.outcome.specs.Outcome.{Outcome, outcome}
 use Rattle.single_step.specs.SingleStep.{fit_outcome}
 use Rattle.iterated.specs.Iterated.{iterated_outcome}
@@ -55,9 +55,9 @@ refused_answer k = record {
   settled = false;
 }
 
-abbrev pub fit_answer : Fit → FitAnswer
-fit_answer (Done r) = given_answer r
-fit_answer (Refused k) = refused_answer k
+abbrev pub fit_answer : Result FitResult Refusal → FitAnswer
+fit_answer (Ok r) = given_answer r
+fit_answer (Err why) = refused_answer (number_of why)
 
 -- the struct, and what each buffer holds at the end
 pub record Exported : Type 0 where
@@ -72,16 +72,24 @@ exported_of o = exported (fit_answer o.answer) o.left
 
 -- ---- what sigma is by, as a code: 0 is by stars, 1 by rows
 
-abbrev pub chosen : ℕ → SigmaBy
-chosen code = cond (eqb code 0) Stars Rows
+abbrev pub chosen : ℕ → Option SigmaBy
+chosen code = cond (eqb code 0) (Some Stars) (cond (eqb code 1) (Some Rows) None)
 
--- any other is a no to question 5, that of the codes: the number of an earlier no comes first
-abbrev pub unknown_no : FitInputs → IterOptions → Sizes → ℕ
-unknown_no l o s = first_no (λ k. k) 5 (numbers_asked l o s)
+-- any other is a no to question 5, that of the codes: an earlier no comes first
+abbrev pub no_or_code : Result ⊤ Refusal → Refusal
+no_or_code (Ok done) = Code
+no_or_code (Err why) = why
+
+abbrev pub unknown_no : FitInputs → IterOptions → Sizes → Refusal
+unknown_no l o s = no_or_code (answered (numbers_asked l o s))
 
 -- a call of a fit with that code
-abbrev pub by_code : ℕ → (SigmaBy → Outcome) → ℕ → Buffers → Outcome
-by_code code fit unknown b = cond (ltb code 2) (fit (chosen code)) (outcome (Refused unknown) b)
+abbrev pub by_choice : Option SigmaBy → (SigmaBy → Outcome) → Refusal → Buffers → Outcome
+by_choice (Some by) fit unknown b = fit by
+by_choice None fit unknown b = outcome (Err unknown) b
+
+abbrev pub by_code : ℕ → (SigmaBy → Outcome) → Refusal → Buffers → Outcome
+by_code code fit unknown b = by_choice (chosen code) fit unknown b
 
 abbrev pub single_step_by : ℕ → FitInputs → Buffers → Outcome
 single_step_by code l b = by_code code (λ by. fit_outcome l by b) (unknown_no l no_options (sizes_of b)) b

@@ -1,12 +1,16 @@
 -- How much scratch a fit needs, as a C struct. Definitions only.
-use Rattle.std.specs.Prelude.{ℕ, [], ◌∷◌}
-use Rattle.terms.specs.Questions.{ask, first_no}
+use Rattle.std.specs.Prelude.{ℕ, [], ◌∷◌, Result, Ok, Err}
+use Rattle.refusal.specs.Refusal.{number_of}
+use Rattle.refusal.specs.declared.Refusal.{Refusal}
+use Rattle.refusal.specs.declared.Refusal.TheVariants.{Limits}
+use Rattle.refusal.specs.Questions.{ask, asked}
 use Rattle.validate.specs.Questions.{in_limits, scratch_needed}
 use Rattle.exports.specs.declared.ScratchLength.{ScratchLength}
 
-abbrev pub length_of : ℕ → ℕ → ScratchLength
-length_of k n = record { refusal = k; length = n }
+abbrev pub length_answer : Result ℕ Refusal → ScratchLength
+length_answer (Ok n) = record { refusal = 0; length = n }
+length_answer (Err why) = record { refusal = number_of why; length = 0 }
 
 -- question 1 of m terms and n stars, then what question 3 asks of scratch
 unfoldable pub scratch_length : ℕ → ℕ → ScratchLength
-scratch_length m n = first_no (λ k. length_of k 0) (length_of 0 (scratch_needed m n)) (ask (in_limits m n) 1 ∷ [])
+scratch_length m n = length_answer (asked (ask (in_limits m n) Limits ∷ []) (Ok (scratch_needed m n)))

@@ -1,15 +1,18 @@
 -- What a name is read as, in numbers, as a C struct. Definitions only.
-use Rattle.std.specs.Prelude.{ℕ, false, cond, List, map, eqb, replicate}
+use Rattle.std.specs.Prelude.{ℕ, false, List, [], map, replicate, Result, Ok, Err}
+use Rattle.refusal.specs.Refusal.{number_of}
+use Rattle.refusal.specs.declared.Refusal.{Refusal}
 use Rattle.limits.specs.Limits.{slot_bytes}
 use Rattle.equatorial.specs.Equatorial.{code_of, txn_number}
 use Rattle.harmonic.specs.declared.TrigFunc.{TrigFunc}
 use Rattle.harmonic.specs.declared.Coordinate.{Coordinate}
 use Rattle.harmonic.specs.declared.ResultType.{ResultType}
+use Rattle.harmonic.specs.Harmonic.{array_of}
+use Rattle.harmonic.specs.declared.Components.{Components}
 use Rattle.harmonic.specs.declared.HarmonicComponent.{HarmonicComponent}
 use Rattle.terms.specs.declared.TermKind.{TermKind}
 use Rattle.terms.specs.declared.TermKind.TheVariants.{Equatorial, Harmonic}
 use Rattle.terms.specs.declared.Term.{Term}
-use Rattle.terms.specs.declared.Reading.{Reading}
 use Rattle.exports.specs.declared.term.TermAnswer.{TermAnswer}
 use Rattle.exports.specs.declared.term.ComponentCodes.{ComponentCodes}
 
@@ -27,15 +30,15 @@ result_code ResultType.S = 7
 
 abbrev pub kind_code : TermKind → ℕ
 kind_code (Equatorial t) = code_of t
-kind_code (Harmonic t) = 15
+kind_code (Harmonic h) = 15
 
 abbrev pub kind_number : TermKind → ℕ
 kind_number (Equatorial t) = txn_number t
-kind_number (Harmonic t) = 0
+kind_number (Harmonic h) = 0
 
 abbrev pub kind_result : TermKind → ℕ
 kind_result (Equatorial t) = 0
-kind_result (Harmonic t) = result_code t
+kind_result (Harmonic h) = result_code h.result
 
 -- ---- components
 
@@ -57,17 +60,23 @@ codes_of functions coordinates frequencies = record { functions = functions; coo
 abbrev pub component_codes : List HarmonicComponent → ComponentCodes
 component_codes l = codes_of (map (λ c. function_code c.func) l) (map (λ c. coordinate_code c.coord) l) (map (λ c. c.frequency) l)
 
+-- an equatorial term has none
+abbrev pub components_of : TermKind → Components
+components_of (Equatorial t) = array_of []
+components_of (Harmonic h) = h.components
+
 -- ---- the answer
 
 abbrev pub read_answer : Term → TermAnswer
 read_answer t =
-    let codes = component_codes t.components.list in
+    let cs = components_of t.kind in
+    let codes = component_codes cs.list in
     record {
       refusal = 0;
       kind = kind_code t.kind;
       number = kind_number t.kind;
       result = kind_result t.kind;
-      count = t.components.count;
+      count = cs.count;
       name = t.name;
       functions = codes.functions;
       coordinates = codes.coordinates;
@@ -90,5 +99,6 @@ no_term k = record {
   pier_sensitive = false;
 }
 
-unfoldable pub term_answer : Reading → TermAnswer
-term_answer r = cond (eqb r.refusal 0) (read_answer r.term) (no_term r.refusal)
+abbrev pub term_answer : Result Term Refusal → TermAnswer
+term_answer (Ok t) = read_answer t
+term_answer (Err why) = no_term (number_of why)

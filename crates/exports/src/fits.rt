@@ -1,12 +1,13 @@
 // The answer of a fit as a C struct, and what sigma is by as a code.
 
 ghost use Rattle.std.specs.Prelude.{◌≡◌};
-ghost use Rattle.solver.specs.Call.{inputs};
 ghost use Rattle.exports.specs.Fits.{given_answer, refused_answer, fit_answer, chosen as chosen_of, unknown_no};
 
-use solver::{Fit, FitResult, IterOptions, Settings, SigmaBy, Sizes};
+use refusal::Refusal;
+use solver::input::FitInput;
+use solver::{FitResult, IterOptions, SigmaBy, Sizes};
 
-// solver::Fit for C: 0 and the fields of a result, or the number of the question that refused the fit and zeros.
+// 0 and the fields of a fit's result, or the number of the question that refused the fit and zeros.
 #[repr(C)]
 #[derive(Clone, Copy)]
 pub struct FitAnswer {
@@ -49,11 +50,11 @@ fn given(r: FitResult) -> FitAnswer
     }
 }
 
-fn refused(k: u8) -> FitAnswer
-    ensures { result ≡ refused_answer k }
+fn refused(refusal: u8) -> FitAnswer
+    ensures { result ≡ refused_answer refusal }
 {
     FitAnswer {
-        refusal: k,
+        refusal,
         sky_rms: 0.0,
         popn_sd: 0.0,
         n_free: 0,
@@ -70,55 +71,37 @@ fn refused(k: u8) -> FitAnswer
     }
 }
 
-pub fn answer(fit: Fit) -> FitAnswer
-    ensures { result ≡ fit_answer fit }
-{
-    match fit {
-        Fit::Done(r) => given(r),
-        Fit::Refused(k) => refused(k),
+impl From<Result<FitResult, Refusal>> for FitAnswer {
+    ghost from_gives = { λ r a. a ≡ fit_answer r };
+
+    fn from(fit: Result<FitResult, Refusal>) -> FitAnswer
+        ensures { result ≡ fit_answer fit }
+    {
+        match fit {
+            Ok(r) => given(r),
+            Err(why) => refused(why.number()),
+        }
     }
 }
 
 // What sigma is by, of a known code.
-pub fn chosen(code: u8) -> SigmaBy
+// No TryFrom: SigmaBy is solver's, and C's codes are this crate's.
+pub fn chosen(code: u8) -> Option<SigmaBy>
     ensures { result ≡ chosen_of code }
 {
-    if code == 0 {
-        return SigmaBy::Stars;
+    match code {
+        0 => Some(SigmaBy::Stars),
+        1 => Some(SigmaBy::Rows),
+        _ => None,
     }
-    SigmaBy::Rows
 }
 
-// The refusal of a call whose code of what sigma is by is unknown: a no to question 5, after questions 1 to 4.
-pub fn unknown_code(
-    names: &[u8],
-    fixed: &[u8],
-    coefficients: &[f64],
-    dh: &[f64],
-    dd: &[f64],
-    pier: &[u8],
-    sheets: &[f64],
-    settings: Settings,
-    options: IterOptions,
-    room: Sizes,
-) -> FitAnswer
-    ensures { result ≡ refused_answer (unknown_no (inputs names.now fixed.now coefficients.now dh.now
-        dd.now pier.now sheets.now settings) options room) }
+// Why a call is refused whose code of what sigma is by is unknown: a no to question 5, after questions 1 to 4.
+pub fn unknown_code(input: &FitInput, options: IterOptions, room: Sizes) -> Refusal
+    ensures { result ≡ unknown_no input.now options room }
 {
-    let no = validate::numbers_refusal(
-        names,
-        fixed,
-        coefficients,
-        dh,
-        dd,
-        pier,
-        sheets,
-        settings,
-        options,
-        room,
-    );
-    if no != 0 {
-        return refused(no);
+    match validate::ask_numbers(input, options, room) {
+        Err(why) => why,
+        Ok(()) => Refusal::Code,
     }
-    refused(5)
 }

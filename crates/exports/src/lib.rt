@@ -11,19 +11,20 @@ ghost use Rattle.model.specs.Correction.{correction_at, breakdown_at};
 ghost use Rattle.solver.specs.Call.{settings_of, inputs, buffers};
 ghost use Rattle.exports.specs.Scratch.{scratch_length};
 ghost use Rattle.exports.specs.Term.{term_answer};
-ghost use Rattle.exports.specs.Point.{pair_answer, correction_answer};
+ghost use Rattle.exports.specs.Point.{pair_answer, breakdown_answer};
 ghost use Rattle.exports.specs.Fits.{exported, exported_of, single_step_by, iterated_by, BestWhereGiven};
 
 mod fits;
 mod point;
 mod term;
 
-use crate::fits::{FitAnswer, answer, chosen, unknown_code};
-use crate::point::{PairAnswer, correction_answer, pair_answer};
+use crate::fits::{FitAnswer, chosen, unknown_code};
+use crate::point::{BreakdownAnswer, PairAnswer};
 use crate::term::{TermAnswer, term_answer};
 use limits::{MAX_STARS, MAX_TERMS};
-use model::Breakdown;
 use model::point::{breakdown_at, correction_at};
+use refusal::Refusal;
+use solver::input::FitInput;
 use solver::{IterOptions, Settings, Sizes};
 
 // The square root, correctly rounded.
@@ -43,19 +44,14 @@ pub struct ScratchLength {
 }
 
 // The scratch that a fit of m terms and n stars needs.
+#[tactic(auto, unfolding(crate::specs::Scratch::scratch_length, validate::specs::Questions::in_limits))]
 #[unsafe(no_mangle)]
 pub extern "C" fn pointing_scratch_length(m: usize, n: usize) -> ScratchLength
     ensures { result ≡ scratch_length m n }
 {
-    if MAX_TERMS < m {
+    if MAX_TERMS < m || MAX_STARS < n {
         return ScratchLength {
-            refusal: 1,
-            length: 0,
-        };
-    }
-    if MAX_STARS < n {
-        return ScratchLength {
-            refusal: 1,
+            refusal: Refusal::Limits.number(),
             length: 0,
         };
     }
@@ -84,7 +80,7 @@ pub extern "C" fn pointing_jacobian(
 ) -> PairAnswer
     ensures { result ≡ pair_answer (jacobian_of name.now sheet.now sin_lat cos_lat pier) }
 {
-    pair_answer(terms::jacobian(name, sheet, sin_lat, cos_lat, pier))
+    PairAnswer::from(terms::jacobian(name, sheet, sin_lat, cos_lat, pier))
 }
 
 // The correction at one point of the model with these names and coefficients.
@@ -97,10 +93,10 @@ pub extern "C" fn pointing_apply_equatorial(
     cos_lat: f64,
     pier: u8,
 ) -> PairAnswer
-    ensures { result ≡ correction_answer (correction_at (length coefficients.now) names.now coefficients.now
+    ensures { result ≡ pair_answer (correction_at (length coefficients.now) names.now coefficients.now
         sheet.now sin_lat cos_lat pier) }
 {
-    correction_answer(correction_at(names, coefficients, sheet, sin_lat, cos_lat, pier))
+    PairAnswer::from(correction_at(names, coefficients, sheet, sin_lat, cos_lat, pier))
 }
 
 // What each term contributes to the correction at one point, and whether it is pier sensitive.
@@ -112,14 +108,14 @@ pub extern "C" fn pointing_predict_breakdown(
     sin_lat: f64,
     cos_lat: f64,
     pier: u8,
-) -> Breakdown
-    ensures { result ≡ breakdown_at (length coefficients.now) names.now coefficients.now
-        sheet.now sin_lat cos_lat pier }
+) -> BreakdownAnswer
+    ensures { result ≡ breakdown_answer (breakdown_at (length coefficients.now) names.now coefficients.now
+        sheet.now sin_lat cos_lat pier) }
 {
-    breakdown_at(names, coefficients, sheet, sin_lat, cos_lat, pier)
+    BreakdownAnswer::from(breakdown_at(names, coefficients, sheet, sin_lat, cos_lat, pier))
 }
 
-// The single-step fit.
+// The single-step fit. Both fits write out what C lends: one function for it would take the same slices, and each call list them again.
 #[unsafe(no_mangle)]
 pub extern "C" fn pointing_fit_model(
     names: &[u8],
@@ -144,33 +140,7 @@ pub extern "C" fn pointing_fit_model(
         pier.now sheets.now (settings_of sin_lat cos_lat fit_tol))
         (buffers out.old change.old sigma.old diagnostics.old scratch.old)) }
 {
-    let settings = Settings {
-        sin_lat,
-        cos_lat,
-        fit_tol,
-    };
-    if sigma_by > 1 {
-        let room = Sizes {
-            coefficients: out.len(),
-            change: change.len(),
-            sigma: sigma.len(),
-            diagnostics: diagnostics.len(),
-            scratch: scratch.len(),
-        };
-        return unknown_code(
-            names,
-            fixed,
-            coefficients,
-            dh,
-            dd,
-            pier,
-            sheets,
-            settings,
-            validate::no_options(),
-            room,
-        );
-    }
-    answer(single_step::fit_model(
+    let input = FitInput {
         names,
         fixed,
         coefficients,
@@ -178,14 +148,24 @@ pub extern "C" fn pointing_fit_model(
         dd,
         pier,
         sheets,
-        settings,
-        chosen(sigma_by),
-        out,
-        change,
-        sigma,
-        diagnostics,
-        scratch,
-    ))
+        settings: Settings {
+            sin_lat,
+            cos_lat,
+            fit_tol,
+        },
+    };
+    let Some(by) = chosen(sigma_by) else {
+        let room = Sizes {
+            coefficients: out.len(),
+            change: change.len(),
+            sigma: sigma.len(),
+            diagnostics: diagnostics.len(),
+            scratch: scratch.len(),
+        };
+        let why = unknown_code(&input, validate::no_options(), room);
+        return FitAnswer::from(Err(why));
+    };
+    FitAnswer::from(single_step::fit_model(&input, by, out, change, sigma, diagnostics, scratch))
 }
 
 // The iterated fit, robust or not.
@@ -217,33 +197,7 @@ pub extern "C" fn pointing_fit_model_iterated(
         pier.now sheets.now (settings_of sin_lat cos_lat fit_tol))
         options result out.new }
 {
-    let settings = Settings {
-        sin_lat,
-        cos_lat,
-        fit_tol,
-    };
-    if sigma_by > 1 {
-        let room = Sizes {
-            coefficients: out.len(),
-            change: change.len(),
-            sigma: sigma.len(),
-            diagnostics: diagnostics.len(),
-            scratch: scratch.len(),
-        };
-        return unknown_code(
-            names,
-            fixed,
-            coefficients,
-            dh,
-            dd,
-            pier,
-            sheets,
-            settings,
-            options,
-            room,
-        );
-    }
-    answer(iterated::fit_model_iterated(
+    let input = FitInput {
         names,
         fixed,
         coefficients,
@@ -251,8 +205,26 @@ pub extern "C" fn pointing_fit_model_iterated(
         dd,
         pier,
         sheets,
-        settings,
-        chosen(sigma_by),
+        settings: Settings {
+            sin_lat,
+            cos_lat,
+            fit_tol,
+        },
+    };
+    let Some(by) = chosen(sigma_by) else {
+        let room = Sizes {
+            coefficients: out.len(),
+            change: change.len(),
+            sigma: sigma.len(),
+            diagnostics: diagnostics.len(),
+            scratch: scratch.len(),
+        };
+        let why = unknown_code(&input, options, room);
+        return FitAnswer::from(Err(why));
+    };
+    FitAnswer::from(iterated::fit_model_iterated(
+        &input,
+        by,
         options,
         out,
         change,

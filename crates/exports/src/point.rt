@@ -1,11 +1,12 @@
-// A pair of contributions as a C struct.
+// A pair of contributions, and the contributions of each term, as C structs.
 
 ghost use Rattle.std.specs.Prelude.{◌≡◌};
-ghost use Rattle.exports.specs.Point.{given_pair, refused_pair, pair_answer, correction_answer};
+ghost use Rattle.exports.specs.Point.{pair_answer, broken_down, breakdown_answer};
 
-use model::Correction;
+use limits::MAX_TERMS;
+use model::Breakdown;
 use observation::Pair;
-use terms::answer::Jacobian;
+use refusal::Refusal;
 
 // 0 and a pair, or the number of the question that refused and zeros.
 #[repr(C)]
@@ -16,40 +17,60 @@ pub struct PairAnswer {
     pub dd: f64,
 }
 
-pub fn given_pair(p: Pair) -> PairAnswer
-    ensures { result ≡ given_pair p }
-{
-    PairAnswer {
-        refusal: 0,
-        dh: p.dh,
-        dd: p.dd,
+impl From<Result<Pair, Refusal>> for PairAnswer {
+    ghost from_gives = { λ r a. a ≡ pair_answer r };
+
+    fn from(answer: Result<Pair, Refusal>) -> PairAnswer
+        ensures { result ≡ pair_answer answer }
+    {
+        match answer {
+            Ok(p) => PairAnswer {
+                refusal: 0,
+                dh: p.dh,
+                dd: p.dd,
+            },
+            Err(why) => PairAnswer {
+                refusal: why.number(),
+                dh: 0.0,
+                dd: 0.0,
+            },
+        }
     }
 }
 
-pub fn refused_pair(k: u8) -> PairAnswer
-    ensures { result ≡ refused_pair k }
+// 0 and a pair and a flag for each term with zeros and false behind them, or the number of the question that refused, zeros and false.
+#[repr(C)]
+#[derive(Clone, Copy)]
+pub struct BreakdownAnswer {
+    pub refusal: u8,
+    pub dh: [f64; MAX_TERMS],
+    pub dd: [f64; MAX_TERMS],
+    pub pier_sensitive: [bool; MAX_TERMS],
+}
+
+fn broken_down(refusal: u8, parts: Breakdown) -> BreakdownAnswer
+    ensures { result ≡ broken_down refusal parts }
 {
-    PairAnswer {
-        refusal: k,
-        dh: 0.0,
-        dd: 0.0,
+    let dh = parts.dh;
+    let dd = parts.dd;
+    let pier_sensitive = parts.pier_sensitive;
+    BreakdownAnswer {
+        refusal,
+        dh,
+        dd,
+        pier_sensitive,
     }
 }
 
-pub fn pair_answer(j: Jacobian) -> PairAnswer
-    ensures { result ≡ pair_answer j }
-{
-    match j {
-        Jacobian::Given(p) => given_pair(p),
-        Jacobian::Refused(k) => refused_pair(k),
-    }
-}
+impl From<Result<Breakdown, Refusal>> for BreakdownAnswer {
+    ghost from_gives = { λ r a. a ≡ breakdown_answer r };
 
-pub fn correction_answer(c: Correction) -> PairAnswer
-    ensures { result ≡ correction_answer c }
-{
-    match c {
-        Correction::Given(p) => given_pair(p),
-        Correction::Refused(k) => refused_pair(k),
+    fn from(answer: Result<Breakdown, Refusal>) -> BreakdownAnswer
+        ensures { result ≡ breakdown_answer answer }
+    {
+        match answer {
+            Ok(parts) => broken_down(0, parts),
+            Err(why) => broken_down(why.number(), Breakdown::empty()),
+        }
     }
 }

@@ -1,15 +1,15 @@
 -- The bit patterns of values that are finite, above zero or no NaN. Assumes nothing.
 use Prim.Native.Nat.{ℕ, suc, ◌+◌, ◌-◌, ◌*◌, ◌/◌, ◌%◌, ◌^◌, ◌≤◌, ◌<◌}
 use mathlib.Core.Path.{◌≡◌, refl, sym, ap, ◌∙◌, subst}
-use mathlib.Core.Bool.{Bool, true, false, not, ◌&&◌, true≢false}
+use mathlib.Core.Bool.{Bool, true, false, not, ◌&&◌, true≢false, false≢true}
 use mathlib.Core.Logic.{◌⊎◌, inl, inr}
 use native.Mathlib.Nat.{mul_right_comm, mul-lt-mul_of_pos_right, div-lt_iff_lt-mul, mod-eq_of_lt, eq-zero-or-pos}
 use native.Mathlib.Omega.{arith}
-use lib.IntN.{ℤ, pos}
-use lib.Dec.{T, leb, ltb, eqb, ltb→lt, le→leb}
+use lib.IntN.{ℤ}
+use lib.Dec.{T, leb, ltb, eqb, ltb→lt}
 use lib.Arith.{le→nltb}
 use lib.Pow.{pow_pos}
-use lib.Ieee.{Float, nan, inf, fin, binary64, up, down, size, eq, ne, in_float, fits, is_nan, of_bits, to_bits, nan_bits}
+use lib.Ieee.{Float, nan, inf, fin, binary64, up, down, size, eq, ne, fits, is_nan, of_bits, to_bits, nan_bits}
 use lib.Ieee.Digits.{size-le}
 use lib.Ieee.Fits.{and_r, down_pos, kept-lt}
 use lib.Ieee.Bits.{of_bits-to_bits, nan_bits_above}
@@ -21,6 +21,12 @@ unfolding ne is_nan
 no_nan nan h = absurd (true≢false h)
 no_nan (inf s) h = tt
 no_nan (fin s m e) h = tt
+
+pub nan_alone : (x : Float) → is_nan x ≡ true → nan ≡ x
+unfolding is_nan
+nan_alone nan h = refl
+nan_alone (inf s) h = absurd (false≢true h)
+nan_alone (fin s m e) h = absurd (false≢true h)
 
 zero_itself : eq (of_bits binary64 0) (of_bits binary64 0) ≡ true
 unfolding eq of_bits
@@ -64,9 +70,3 @@ no_nan_bits r h =
 
     low : (r : ℕ) → r < 2047 * 2 ^ 52 → r ≤ 2047 * 2 ^ 52
     low r h = omega arith
-
--- ---- a whole number up to 2 ^ 53 is a value
-
-pub whole_in : (n : ℕ) → n ≤ 2 ^ 53 → T (in_float binary64 (pos n))
-unfolding in_float
-whole_in n h = le→leb n (2 ^ 53) h

@@ -9,7 +9,7 @@ use lib.IntN.{ℤ, pos}
 use lib.Dec.{eqb}
 use lib.Ieee.{Float, nan, inf, fin, up, down, lt, eq, div, of_bits}
 use lib.Ieee.Fits.{up_pos}
-use Rattle.float.specs.Float.{#0, #1, ◌⊘◌, is_finite}
+use Rattle.float.specs.Float.{#0, ◌⊘◌, is_finite}
 
 -- ---- the numbers that the code writes out
 
@@ -20,10 +20,6 @@ zero_is = refl
 pub zero_finite : is_finite #0 ≡ true
 unfolding is_finite of_bits
 zero_finite = refl
-
-pub infinity_is : #1 ⊘ #0 ≡ inf false
-unfolding div of_bits
-infinity_is = refl
 
 pub nan_is : #0 ⊘ #0 ≡ nan
 unfolding div of_bits

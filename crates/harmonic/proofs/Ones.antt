@@ -5,8 +5,8 @@ use native.Mathlib.Omega.{arith}
 use mathlib.Core.Path.{◌≡◌, refl}
 use mathlib.Core.Logic.{◌⊎◌, inl, inr}
 use mathlib.Core.Bool.{Bool, true, false, not, ◌||◌, cond}
-use mathlib.Core.List.{List, [], ◌∷◌, foldl}
-use mathlib.Core.Option.{Option, none, some}
+use mathlib.Core.List.{List, [], ◌∷◌}
+use Rattle.std.specs.Prelude.{Option, None, Some, fold}
 use borrow.Author.Tests.{leb-true}
 use lib.Dec.{eqb, ltb, leb}
 use lib.ListN.{length, get_or, drop, replicate, get_or-replicate}
@@ -16,16 +16,14 @@ use Rattle.float.specs.Float.{◌⊗◌, #0, #1}
 use Rattle.sequence.specs.Sequence.{at}
 use Rattle.sequence.proofs.Tests.{right_of}
 use Rattle.observation.specs.Sheet.{place_h, place_dec}
-use Rattle.harmonic.specs.Harmonic.{blank_component, is_digit, func_of, coord_of, made, component, join, components, result_of, malformed_name, parsed}
+use Rattle.harmonic.specs.Harmonic.{blank_component, is_digit, func_of, coord_of, made, component, join, components, result_of, parsed}
 use Rattle.harmonic.specs.Harmonic.{parse_harmonic}
 use Rattle.harmonic.specs.Value.{trig_at, trig_value, value_product, evaluate}
 use Rattle.harmonic.specs.declared.TrigFunc.{TrigFunc}
 use Rattle.harmonic.specs.declared.Coordinate.{Coordinate}
-use Rattle.harmonic.specs.declared.FuncRead.{FuncRead}
-use Rattle.harmonic.specs.declared.CoordRead.{CoordRead}
-use Rattle.harmonic.specs.declared.ResultRead.{ResultRead}
-use Rattle.harmonic.specs.declared.Made.{Made}
+use Rattle.harmonic.specs.declared.ResultType.{ResultType}
 use Rattle.harmonic.specs.declared.HarmonicComponent.{HarmonicComponent}
+use Rattle.harmonic.specs.declared.Harmonic.{Harmonic}
 
 abbrev pub ones : List Float
 ones = replicate 37 #1
@@ -60,26 +58,26 @@ trig_ones TrigFunc.Cos Coordinate.Z k h = inl refl
 -- ---- the product goes on from 1 or 0 to 1 or 0 over the components of a text
 
 abbrev Goes : Option (List HarmonicComponent) → Type 0
-Goes none = Unit {0}
-Goes (some l) = (x : Float) → OneOrZero x → OneOrZero (foldl (λ acc c. acc ⊗ trig_value ones c) x l)
+Goes None = Unit {0}
+Goes (Some l) = (x : Float) → OneOrZero x → OneOrZero (fold (λ acc c. acc ⊗ trig_value ones c) x l)
 
 module _ (f : TrigFunc) (c : Coordinate) (k : ℕ) (h : k ≤ 9) where
   joined : (t : Bool) (o : Option (List HarmonicComponent)) → Goes o
-      → Goes (join (cond t Made.Malformed (Made.Component (record { func = f; coord = c; frequency = k }))) o)
+      → Goes (join (cond t None (Some (record { func = f; coord = c; frequency = k }))) o)
   joined true o g = tt
-  joined false none g = tt
-  joined false (some l) g = λ x p. g _ (times p (trig_ones f c k h))
+  joined false None g = tt
+  joined false (Some l) g = λ x p. g _ (times p (trig_ones f c k h))
 
-made_goes : (f : FuncRead) (c : CoordRead) (k : ℕ) (o : Option (List HarmonicComponent)) → k ≤ 9 → Goes o → Goes (join (made f c k) o)
-made_goes FuncRead.Unknown c k o h g = tt
-made_goes (FuncRead.Func f) CoordRead.Unknown k o h g = tt
-made_goes (FuncRead.Func f) (CoordRead.Coord c) k o h g = joined f c k h (eqb k 0) o g
+made_goes : (f : Option TrigFunc) (c : Option Coordinate) (k : ℕ) (o : Option (List HarmonicComponent)) → k ≤ 9 → Goes o → Goes (join (made f c k) o)
+made_goes None c k o h g = tt
+made_goes (Some f) None k o h g = tt
+made_goes (Some f) (Some c) k o h g = joined f c k h (eqb k 0) o g
 
 components_go : (s : List ℕ) → Goes (components s)
 unfolding components
 components_go [] = λ x p. p
 components_go (f ∷ []) = tt
-components_go (f ∷ c ∷ []) = made_goes (func_of f) (coord_of c) 1 (some []) (omega arith) (λ x p. p)
+components_go (f ∷ c ∷ []) = made_goes (func_of f) (coord_of c) 1 (Some []) (omega arith) (λ x p. p)
 components_go (f ∷ c ∷ d ∷ s) = by (is_digit d) refl (components_go s) (components_go (d ∷ s))
   where
     by : (t : Bool) → is_digit d ≡ t → Goes (components s) → Goes (components (d ∷ s))
@@ -91,19 +89,23 @@ components_go (f ∷ c ∷ d ∷ s) = by (is_digit d) refl (components_go s) (co
 
 -- ---- a whole name
 
-parsed_ones : (r : ResultRead) (o : Option (List HarmonicComponent)) → Goes o → OneOrZero (evaluate ones (parsed r o).components)
+abbrev pub ReadOnes : Option Harmonic → Type 0
+ReadOnes None = Unit {0}
+ReadOnes (Some h) = OneOrZero (evaluate ones h.components)
+
+parsed_ones : (r : Option ResultType) (o : Option (List HarmonicComponent)) → Goes o → ReadOnes (parsed r o)
 unfolding value_product
-parsed_ones ResultRead.Unknown o g = inl refl
-parsed_ones (ResultRead.Result r) none g = inl refl
-parsed_ones (ResultRead.Result r) (some l) g =
+parsed_ones None o g = tt
+parsed_ones (Some r) None g = tt
+parsed_ones (Some r) (Some l) g =
     rw (take_at l (replicate (7 - length l) blank_component) (length l) refl) (g #1 (inl refl))
 
-pub read_ones : (n : List ℕ) → OneOrZero (evaluate ones (parse_harmonic n).components)
+pub read_ones : (n : List ℕ) → ReadOnes (parse_harmonic n)
 unfolding parse_harmonic value_product
 read_ones n =
     by (ltb (length n) 4 || not (eqb (get_or n 0 0) (code "H"))) (parsed_ones (result_of (get_or n 1 0)) (components (drop 2 n)) (components_go (drop 2 n)))
   where
-    by : (t : Bool) → OneOrZero (evaluate ones (parsed (result_of (get_or n 1 0)) (components (drop 2 n))).components)
-        → OneOrZero (evaluate ones (cond t malformed_name (parsed (result_of (get_or n 1 0)) (components (drop 2 n)))).components)
-    by true p = inl refl
+    by : (t : Bool) → ReadOnes (parsed (result_of (get_or n 1 0)) (components (drop 2 n)))
+        → ReadOnes (cond t None (parsed (result_of (get_or n 1 0)) (components (drop 2 n))))
+    by true p = tt
     by false p = p

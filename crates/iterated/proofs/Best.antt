@@ -20,8 +20,8 @@ use Rattle.best.specs.Trials.{proposed, answer, Keeps}
 use Rattle.best.proofs.Best.{answer-listed}
 use Rattle.best.proofs.Counts.{after_holds, few_proposed, counts, tried_length}
 use Rattle.best.proofs.Demand.{demand3}
-use Rattle.solver.specs.declared.Fit.{Fit}
-use Rattle.solver.specs.declared.Fit.TheVariants.{Done, Refused}
+use Rattle.std.specs.Prelude.{Result, Ok, Err}
+use Rattle.refusal.specs.declared.Refusal.{Refusal}
 use Rattle.solver.specs.declared.FitResult.{FitResult}
 use Rattle.solver.specs.declared.IterOptions.{IterOptions}
 use Rattle.solver.specs.declared.SigmaBy.{SigmaBy}
@@ -193,13 +193,13 @@ best_of_tried l o few =
 
 -- ---- an accepted call: its answer, and what the buffers hold at its end
 
-iterations_of : Fit → ℕ
-iterations_of (Done r) = r.iter_report.iterations
-iterations_of (Refused k) = 0
+iterations_of : Result FitResult Refusal → ℕ
+iterations_of (Ok r) = r.iter_report.iterations
+iterations_of (Err why) = 0
 
 pub fitted_demand : (l : FitInputs) (by : SigmaBy) (o : IterOptions) (b left : Buffers) (r : FitResult) → length l.dh ≤ max_stars
-    → outcome (Done r) left ≡ fitted l by o b
-    → Demand3 l o (Done r) left.coefficients
+    → outcome (Ok r) left ≡ fitted l by o b
+    → Demand3 l o (Ok r) left.coefficients
 unfolding fitted_run finished iterations_of
 fitted_demand l by o b left r few e =
     let m = length l.coefficients in

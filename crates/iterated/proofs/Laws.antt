@@ -3,8 +3,8 @@ use Prim.Native.Nat.{ℕ, ◌+◌, ◌-◌, ◌*◌, ◌≤◌, ◌<◌}
 use native.Mathlib.Omega.{arith}
 use mathlib.Core.Path.{◌≡◌, refl, sym, ap, ◌∙◌}
 use mathlib.Core.Bool.{Bool, true, false}
-use mathlib.Core.List.{List, map, zip_with}
-use lib.ListN.{length, take, length-map, length-take}
+use mathlib.Core.List.{List, zip_with}
+use lib.ListN.{length, take}
 use lib.Ieee.{Float, inf, binary64, sub, lt, le}
 use Rattle.float.specs.Float.{◌⊗◌, ◌⊘◌, #0}
 use Rattle.sequence.specs.Sequence.{at, part}
@@ -16,28 +16,16 @@ use Rattle.linalg.specs.Linalg.{Solved}
 use Rattle.solver.specs.declared.IterOptions.{IterOptions}
 use Rattle.design.specs.Design.{RunInputs, run_from, sights_at, term_at, product, extracted, weighed_at}
 use Rattle.design.specs.Counted.{Counted}
-use Rattle.design.proofs.Runs.{with_terms, count_is, rows_are}
+use Rattle.design.proofs.Runs.{count_is, rows_are}
 use Rattle.outcome.specs.Scratch.{count_of, height_in, residuals_in, b_in, sky_in, solved_in, Fits}
-use Rattle.outcome.proofs.Front.{renewed, Renewed, front_part, front_above}
+use Rattle.outcome.proofs.Front.{renewed, Renewed, front_part, front_above, front_long}
 use Rattle.outcome.proofs.Runs.{weighed_are}
 use Rattle.lm_system.specs.System.{residuals_under, sky_residuals, chi2_at, huber_from, huber_k_of, weighed_residuals, lm_step, moved, step_norm}
+use Rattle.iterated.specs.declared.LmLoopResult.{LmLoopResult}
 use Rattle.iterated.specs.declared.Trial.{Trial}
 use Rattle.iterated.specs.declared.Trial.TheVariants.{Accepted, Rejected}
-use Rattle.iterated.specs.Iterated.{step_from, proposal, Tried, tried_to, trial_of, Report, report, lambda_limit, answered, leaves, trials, begin, lm_loop}
-use Rattle.iterated.proofs.Best.{moved_length}
+use Rattle.iterated.specs.Iterated.{step_from, proposal, Tried, tried_to, trial_of, Report, lambda_limit, answered, leaves, trials, begin, lm_loop}
 use Rattle.iterated.specs.Iterated.{last_set, last_chi2, free_residuals, Left, Proposed, LastTried}
-
--- ---- arrays
-
--- one that a function's answer holds
-pub array_long : (xs : List Float) (n : ℕ) → length (map (λ (v : Float). v) xs) ≡ n → length xs ≡ n
-array_long xs n e = sym (length-map xs (λ (v : Float). v)) ∙ e
-
--- the front of one that is a set of as many numbers
-pub set_front : (free : List ℕ) (x s t : List Float) → take (length s) t ≡ moved free x s → (length (take (length s) t) ≡ length s) × (length s ≤ length t)
-set_front free x s t e =
-    let long : length (take (length s) t) ≡ length s = ap length e ∙ moved_length free x s in
-    (long, omega (arith, length-take (length s) t))
 
 -- ---- scratch whose front, k numbers, has come back as ys
 
@@ -53,35 +41,23 @@ module _ {l : RunInputs} (c : Counted l) {w ys : List Float} {k : ℕ} (r : Rene
   pub solved_front : (o : SolveOutcome) → k ≤ 8 * count_of l → solved_in l (renewed w ys k) o ≡ solved_in l w o
   solved_front o h = ap (λ (u : List Float). record { outcome = o; w = u }) (above (8 * count_of l) (length l.free * height_in l) h)
 
--- ---- no residual knows how many terms there are
-
-pub residuals_same : (l : RunInputs) (m : ℕ) (s : List Float) → residuals_under (run_from (with_terms l m)) s ≡ residuals_under (run_from l) s
-unfolding residuals_under
-residuals_same l m s = refl
-
-chi2_same : (l : RunInputs) (m : ℕ) (s : List Float) → chi2_at (run_from (with_terms l m)) s ≡ chi2_at (run_from l) s
-unfolding chi2_at sky_residuals residuals_under
-chi2_same l m s = refl
-
 -- ---- a proposal: w after the step, whose front comes back as ys from the chi-square of the set that it leads to
 
 pub proposes : {l : RunInputs} (c : Counted l) (k lambda : Float) (s w ys set : List Float) (chi2 : Float) (a : SolveOutcome) → Renewed w ys (4 * count_of l)
     → (solved_in l w a ≡ lm_step (run_from l) k lambda s)
     × ((b_in l w ≡ weighed_residuals (run_from l) k s) × (sky_in l w ≡ sky_residuals (run_from l) s))
     → take (length s) set ≡ moved l.free a.x s
-    → (chi2 ≡ chi2_at (run_from (with_terms l (length (take (length s) set)))) (take (length s) set))
-    × (residuals_in l ys ≡ residuals_under (run_from (with_terms l (length (take (length s) set)))) (take (length s) set))
+    → (chi2 ≡ chi2_at (run_from l) (take (length s) set)) × (residuals_in l ys ≡ residuals_under (run_from l) (take (length s) set))
     → Proposed l k lambda s (renewed w ys (4 * count_of l)) set chi2 a
 proposes {l} c k lambda s w ys set chi2 a r p e q =
     let n = count_of l in
-    let t = take (length s) set in
     record {
       solution = solved_front c r a (omega arith) ∙ p.0;
       b = above c r (4 * n) (2 * n) (omega arith) ∙ p.1.0;
       sky = above c r (6 * n) (2 * n) (omega arith) ∙ p.1.1;
       trial = e;
-      chi2_is = q.0 ∙ chi2_same l (length t) t ∙ ap (chi2_at (run_from l)) e;
-      left = left_front c r _ (omega arith) q.1 ∙ residuals_same l (length t) t ∙ ap (residuals_under (run_from l)) e;
+      chi2_is = q.0 ∙ ap (chi2_at (run_from l)) e;
+      left = left_front c r _ (omega arith) q.1 ∙ ap (residuals_under (run_from l)) e;
     }
 
 -- ---- a trial from the set s, whose proposal is given
@@ -115,82 +91,89 @@ module _ {l : RunInputs} {k lambda : Float} {s w set : List Float} {next : Float
 
 -- ---- the loop: after i turns it holds a set and how it came to it, and what is left of it comes to what the whole comes to
 
-pub record Looping (l : RunInputs) (o : IterOptions) (s₀ : List Float) (size : ℕ) (s w : List Float) (i : ℕ) (converged : Bool) (lambda norm chi2 : Float)
-    : Type 0 where
-  pub few : i ≤ o.max_iter
+abbrev held : List Float → LmLoopResult → Report
+held s how = record { set = s; how = how }
+
+pub record Looping (l : RunInputs) (o : IterOptions) (s₀ s w : List Float) (i : ℕ) (how : LmLoopResult) : Type 0 where
+  pub fits : Fits l w
   pub long : length s ≡ l.m
-  pub room : length w ≡ size
-  pub not_yet : converged ≡ false
-  pub comes : lm_loop (run_from l) o s₀ ≡ after (trials (run_from l) o) (o.max_iter - i) (report s i false lambda norm chi2)
+  pub turns : how.iterations ≡ i
+  pub not_yet : how.converged ≡ false
+  pub comes : lm_loop (run_from l) o s₀ ≡ after (trials (run_from l) o) (o.max_iter - i) (held s how)
   pub left : Left l s w
 
-pub loop_begins : {l : RunInputs} (c : Counted l) (o : IterOptions) (s w : List Float) (norm chi2 : Float) → length s ≡ l.m → norm ≡ inf false
-    → chi2 ≡ chi2_at (run_from l) s → Left l s w → Looping l o s (length w) s w 0 false o.initial_lambda norm chi2
+-- it begins where the residuals of the set have come back as ys
+pub loop_begins : {l : RunInputs} (o : IterOptions) (s w ys : List Float) (norm chi2 : Float) → Fits l w → length ys ≡ length (take (4 * count_of l) w)
+    → length s ≡ l.m → norm ≡ inf false → chi2 ≡ chi2_at (run_from l) s → residuals_in l ys ≡ residuals_under (run_from l) s
+    → Looping l o s s (renewed w ys (4 * count_of l)) 0
+    (record { iterations = 0; converged = false; lambda = o.initial_lambda; last_step_norm = norm; prev_chi2 = chi2 })
 unfolding lm_loop
-loop_begins {l} c o s w norm chi2 long en ec left =
+loop_begins {l} o s w ys norm chi2 f kept long en ec left =
+    let r : Renewed w ys (4 * count_of l) = record { room = omega (arith, f.room); kept = kept } in
     record {
-      few = omega arith;
+      fits = record { counted = f.counted; room = rw (front_long r) f.room };
       long = long;
-      room = refl;
+      turns = refl;
       not_yet = refl;
       comes = begins (trials (run_from l) o) o.max_iter (begin (run_from l) o s) ∙ rw (en, ec);
-      left = left;
+      left = left_front f.counted r _ (omega arith) left;
     }
 
-module _ {l : RunInputs} {o : IterOptions} {s₀ : List Float} {size : ℕ} {s w : List Float} {i : ℕ} {converged : Bool} {lambda norm chi2 : Float}
-    (u : Looping l o s₀ size s w i converged lambda norm chi2) where
-  pub loop_ready : (w₀ : List Float) → Fits l w₀ → size ≡ length w₀ → Fits (with_terms l (length s)) w × Left (with_terms l (length s)) s w
-  loop_ready w₀ f e = rw u.long (record { counted = f.counted; room = rw (u.room, e) f.room }, u.left)
+module _ {l : RunInputs} {o : IterOptions} {s₀ s w : List Float} {i : ℕ} {how : LmLoopResult} (u : Looping l o s₀ s w i how) where
+  pub loop_over : o.max_iter ≤ i → held s how ≡ lm_loop (run_from l) o s₀
+  loop_over h = ran_out (trials (run_from l) o) o.max_iter _ _ i h u.comes
 
-  pub loop_left : (y w' : List Float) → Left (with_terms l (length s)) y w' → Left l y w'
-  loop_left y w' e = e ∙ residuals_same l (length s) y
+  -- a trial gave t and left the set y and scratch w'
+  module _ (more : i < o.max_iter) (t : Trial) (y w' : List Float) (did : tried_to t y ≡ trial_of (run_from l) o how.prev_chi2 how.lambda s) where
+    turned : answered o (held s how) t y ≡ (trials (run_from l) o).turn (held s how)
+    turned = ap (λ (z : Tried). answered o (held s how) z.answer z.set) did
 
-  pub loop_over : o.max_iter ≤ i → report s i converged lambda norm chi2 ≡ lm_loop (run_from l) o s₀
-  loop_over h = rw u.not_yet (ran_out (trials (run_from l) o) o.max_iter _ _ i h u.comes)
+    left_by : (trials (run_from l) o).ends (held s how) ≡ leaves o t
+    left_by = sym (ap (λ (z : Tried). leaves o z.answer) did)
 
-  -- a trial gave t and left the set y
-  module _ (more : i < o.max_iter) (t : Trial) (y : List Float) (did : tried_to t y ≡ trial_of (run_from (with_terms l (length s))) o chi2 lambda s) where
-    tried : tried_to t y ≡ trial_of (run_from l) o chi2 lambda s
-    tried = rw u.long at did
-
-    turned : answered o (report s i false lambda norm chi2) t y ≡ (trials (run_from l) o).turn (report s i false lambda norm chi2)
-    turned = ap (λ (z : Tried). answered o (report s i false lambda norm chi2) z.answer z.set) tried
-
-    left_by : (trials (run_from l) o).ends (report s i false lambda norm chi2) ≡ leaves o t
-    left_by = sym (ap (λ (z : Tried). leaves o z.answer) tried)
-
-    -- and scratch w'
-    goes : (w' : List Float) (lambda' norm' chi2' : Float)
-        → report y (i + 1) false lambda' norm' chi2' ≡ answered o (report s i false lambda norm chi2) t y → leaves o t ≡ false
-        → length y ≡ length s → length w' ≡ length w → Left (with_terms l (length s)) y w' → Looping l o s₀ size y w' (i + 1) converged lambda' norm' chi2'
-    goes w' lambda' norm' chi2' e h ly lw left =
+    goes : (how' : LmLoopResult) → held y how' ≡ answered o (held s how) t y → leaves o t ≡ false → how'.iterations ≡ i + 1 → how'.converged ≡ false
+        → length y ≡ length s → length w' ≡ length w → Left l y w' → Looping l o s₀ y w' (i + 1) how'
+    goes how' e h turns not_yet ly lw left =
         record {
-          few = omega arith;
+          fits = record { counted = u.fits.counted; room = rw lw u.fits.room };
           long = ly ∙ u.long;
-          room = lw ∙ u.room;
-          not_yet = u.not_yet;
+          turns = turns;
+          not_yet = not_yet;
           comes = goes_on (trials (run_from l) o) o.max_iter _ _ i more u.comes _ (e ∙ turned) (left_by ∙ h);
-          left = loop_left y w' left;
+          left = left;
         }
 
-    ends : (z : Report) → z ≡ answered o (report s i false lambda norm chi2) t y → leaves o t ≡ true → z ≡ lm_loop (run_from l) o s₀
+    ends : (z : Report) → z ≡ answered o (held s how) t y → leaves o t ≡ true → z ≡ lm_loop (run_from l) o s₀
     ends z e h = is_left (trials (run_from l) o) o.max_iter _ _ i more u.comes z (e ∙ turned) (left_by ∙ h)
 
     module _ (next step : Float) (is : t ≡ Accepted next step) where
-      pub accepted_on : (w' : List Float) → lt step o.tol_rad ≡ false → length y ≡ length s → length w' ≡ length w → Left (with_terms l (length s)) y w'
-          → Looping l o s₀ size y w' (i + 1) converged (lambda ⊘ o.lambda_down) step next
-      accepted_on w' h = goes w' (lambda ⊘ o.lambda_down) step next (rw (is, h) refl) (rw is h)
+      -- how the loop came to y then
+      abbrev then : Bool → LmLoopResult
+      then converged =
+          record { iterations = i + 1; converged = converged; lambda = how.lambda ⊘ o.lambda_down; last_step_norm = step; prev_chi2 = next }
 
-      pub accepted_ends : lt step o.tol_rad ≡ true → report y (i + 1) true (lambda ⊘ o.lambda_down) step next ≡ lm_loop (run_from l) o s₀
-      accepted_ends h = ends _ (rw (is, h) refl) (rw is h)
+      pub accepted_on : lt step o.tol_rad ≡ false → length y ≡ length s → length w' ≡ length w → Left l y w'
+          → Looping l o s₀ y w' (i + 1) (then how.converged)
+      accepted_on h = goes (then how.converged) (rw (is, h, u.turns) refl) (rw is h) refl u.not_yet
+
+      pub accepted_ends : lt step o.tol_rad ≡ true → held y (then true) ≡ lm_loop (run_from l) o s₀
+      accepted_ends h = ends _ (rw (is, h, u.turns) refl) (rw is h)
 
     module _ (raised : Float) (is : t ≡ Rejected raised) where
-      pub rejected_on : (w' : List Float) → lt lambda_limit raised ≡ false → length y ≡ length s → length w' ≡ length w → Left (with_terms l (length s)) y w'
-          → Looping l o s₀ size y w' (i + 1) converged raised norm chi2
-      rejected_on w' h = goes w' raised norm chi2 (rw is refl) (rw is h)
+      abbrev damped : LmLoopResult
+      damped = record {
+        iterations = i + 1;
+        converged = how.converged;
+        lambda = raised;
+        last_step_norm = how.last_step_norm;
+        prev_chi2 = how.prev_chi2;
+      }
 
-      pub rejected_ends : lt lambda_limit raised ≡ true → report y (i + 1) converged raised norm chi2 ≡ lm_loop (run_from l) o s₀
-      rejected_ends h = ends _ (rw (is, u.not_yet) refl) (rw is h)
+      pub rejected_on : lt lambda_limit raised ≡ false → length y ≡ length s → length w' ≡ length w → Left l y w' → Looping l o s₀ y w' (i + 1) damped
+      rejected_on h = goes damped (rw (is, u.turns) refl) (rw is h) refl u.not_yet
+
+      pub rejected_ends : lt lambda_limit raised ≡ true → held y damped ≡ lm_loop (run_from l) o s₀
+      rejected_ends h = ends _ (rw (is, u.turns) refl) (rw is h)
 
 -- ---- the last trial, whose proposal is given, and the residuals ys that come back after it
 

@@ -1,7 +1,7 @@
 -- The parts of the fit of a run: what the loop, the last trial and the last steps write, where fronts of the lent buffers are lent one after the other.
 -- Assumes nothing.
 use Prim.Native.Nat.{ℕ, ◌+◌, ◌*◌, ◌≤◌}
-use mathlib.Core.Path.{◌≡◌, refl, sym, ap, ◌∙◌, subst}
+use mathlib.Core.Path.{◌≡◌, refl, ap, ◌∙◌, subst}
 use mathlib.Core.Bool.{Bool, true, false, cond}
 use mathlib.Core.List.{List, ◌++◌, zip_with}
 use lib.ListN.{length, take, drop, replicate}
@@ -9,7 +9,7 @@ use lib.Ieee.{Float, binary64, sub, le}
 use Rattle.float.specs.Float.{#0}
 use Rattle.linalg.specs.declared.SolveOutcome.{SolveOutcome}
 use Rattle.linalg.specs.Linalg.{leverage_of}
-use Rattle.solver.specs.declared.Fit.TheVariants.{Done}
+use Rattle.std.specs.Prelude.{Ok}
 use Rattle.solver.specs.declared.FitResult.{FitResult}
 use Rattle.solver.specs.declared.IterOptions.{IterOptions}
 use Rattle.solver.specs.declared.SigmaBy.{SigmaBy}
@@ -17,17 +17,16 @@ use Rattle.solver.specs.Call.{buffers}
 use Rattle.best.specs.ChiSquare.{chi}
 use Rattle.design.specs.Design.{Run, RunInputs, run_from, scattered}
 use Rattle.design.specs.Counted.{Counted}
-use Rattle.design.proofs.Runs.{with_terms, count_is}
+use Rattle.design.proofs.Runs.{count_is}
 use Rattle.stats.specs.declared.Sky.{Sky}
 use Rattle.stats.specs.Stats.{degrees, sum_sq_sky, sky_of_sum, sky_from, divisor, variance, sigma_at}
 use Rattle.outcome.specs.Outcome.{diagnostic_from, diagnostic_numbers, answer_of, outcome}
-use Rattle.outcome.specs.Scratch.{count_of, height_in, residuals_in, columns_in, solved_in}
-use Rattle.outcome.proofs.Front.{renewed, Renewed, front_long, front_fits, front_again, front_count, front_rest}
+use Rattle.outcome.specs.Scratch.{count_of, height_in, residuals_in, columns_in, solved_in, Fits}
+use Rattle.outcome.proofs.Front.{renewed, Renewed, front_again, front_count, front_rest}
 use Rattle.outcome.proofs.Laws.{InOrder, damped_in_order, finishes}
 use Rattle.lm_system.specs.System.{residuals_under, sky_residuals, chi2_at, lm_step}
 use Rattle.iterated.specs.declared.LmLoopResult.{LmLoopResult}
-use Rattle.iterated.specs.Iterated.{proposal, Report, lm_loop, last_step, last_set, last_chi2, free_residuals, reported, fitted_run, Left, LastTried}
-use Rattle.iterated.proofs.Laws.{residuals_same}
+use Rattle.iterated.specs.Iterated.{proposal, Report, lm_loop, last_step, last_set, last_chi2, free_residuals, reported, fitted_run, LastTried}
 use Rattle.iterated.proofs.Best.{known_end}
 
 -- ---- the chi-square of a set, and what it says of the set on the sky
@@ -62,11 +61,6 @@ pub record Written (l : RunInputs) (need : ℕ) (start out ys zs set scratch v w
   pub worked : Renewed scratch v need
   pub ended : Renewed (renewed scratch v need) w need
 
--- the last trial begins where the loop ended
-pub left_again : (l : RunInputs) (m m' need : ℕ) (out zs scratch v : List Float) → Renewed out zs l.m → Renewed scratch v need → Left (with_terms l m) zs v
-    → Left (with_terms l m') (take l.m (renewed out zs l.m)) (take need (renewed scratch v need))
-left_again l m m' need out zs scratch v r t e = rw (front_again r, front_again t) (e ∙ residuals_same l m zs ∙ sym (residuals_same l m' zs))
-
 -- what the loop came to, and the last trial from there
 pub record Searched (l : RunInputs) (o : IterOptions) (start set w : List Float) (how : LmLoopResult) (least : Float) (a : SolveOutcome) : Type 0 where
   pub came : how ≡ (lm_loop (run_from l) o start).how
@@ -80,14 +74,8 @@ module _ {l : RunInputs} {need : ℕ} {start out ys zs set scratch v w : List Fl
   abbrev last-scratch : List Float
   last-scratch = renewed (renewed scratch v need) w need
 
-  pub out_long : length (renewed looped-out set l.m) ≡ length out
-  out_long = front_long t.kept ∙ front_long t.looped ∙ front_long t.begun
-
-  pub scratch_fits : need ≤ length last-scratch
-  scratch_fits = front_fits t.ended
-
-  pub scratch_long : length last-scratch ≡ length scratch
-  scratch_long = front_long t.ended ∙ front_long t.worked
+  pub last_fits : Fits l (take need last-scratch)
+  last_fits = record { counted = t.counted; room = rw (front_count t.ended) t.room }
 
   out-is : renewed looped-out set l.m ≡ set ++ drop l.m out
   out-is = ap (λ (u : List Float). set ++ u) (front_rest t.looped ∙ front_rest t.begun)
@@ -96,12 +84,12 @@ module _ {l : RunInputs} {need : ℕ} {start out ys zs set scratch v w : List Fl
   scratch-is d e = rw (e, front_count t.ended, front_rest t.ended, front_rest t.worked) refl
 
   pub searched : (o : IterOptions) (how : LmLoopResult) (least : Float) (a : SolveOutcome)
-      → record { set = zs; how = how } ≡ lm_loop (run_from (with_terms l (length (take l.m (renewed out ys l.m))))) o (take l.m (renewed out ys l.m))
-      → LastTried (with_terms l (length (take l.m looped-out))) o how.prev_chi2 (take l.m looped-out) w set least a
+      → record { set = zs; how = how } ≡ lm_loop (run_from l) o (take l.m (renewed out ys l.m))
+      → LastTried l o how.prev_chi2 (take l.m looped-out) w set least a
       → Searched l o start set w how least a
   searched o how least a e q =
-      let loop : record { set = zs; how = how } ≡ lm_loop (run_from l) o start = rw (front_count t.begun, front_again t.begun, t.begins) at e in
-      let last : LastTried l o how.prev_chi2 zs w set least a = rw (front_count t.looped, front_again t.looped) at q in
+      let loop : record { set = zs; how = how } ≡ lm_loop (run_from l) o start = rw (front_again t.begun, t.begins) at e in
+      let last : LastTried l o how.prev_chi2 zs w set least a = rw (front_again t.looped) at q in
       record {
         came = ap (λ (p : Report). p.how) loop;
         last = subst (λ (p : Report). LastTried l o p.how.prev_chi2 p.set w set least a) loop last;
@@ -134,7 +122,7 @@ module _ {l : RunInputs} {need : ℕ} {start out ys zs set scratch v w : List Fl
         (leverage_of (height_in l) (columns_in l (take need last-scratch)) (take (length l.free) a.order) a.inv_s))
         ++ drop (3 * count_of l) diagnostics
         → d ≡ replicate (length (take need last-scratch)) #0
-        → outcome (Done answer) (buffers (renewed looped-out set l.m) (renewed change ch l.m) sigma' diagnostics' (renewed last-scratch d need))
+        → outcome (Ok answer) (buffers (renewed looped-out set l.m) (renewed change ch l.m) sigma' diagnostics' (renewed last-scratch d need))
         ≡ fitted_run (run_from l) by need start o (buffers out change sigma diagnostics scratch)
     unfolding fitted_run
     run-fitted by change sigma diagnostics ch sigma' diagnostics' d sky answer ec ek ea ei ed ez =

@@ -7,13 +7,13 @@ use lib.Ieee.{Float}
 use Rattle.jacobi.specs.Jacobi.{Factorised, SweepsInLimit}
 use Rattle.linalg.specs.Linalg.{Solved}
 use Rattle.linalg.proofs.Sweeps.{sweeps-made, sweeps_settled, undamped}
-use Rattle.solver.specs.declared.Fit.TheVariants.{Done}
+use Rattle.std.specs.Prelude.{Ok}
 use Rattle.solver.specs.declared.FitResult.{FitResult}
 use Rattle.solver.specs.declared.IterOptions.{IterOptions}
 use Rattle.solver.specs.declared.SigmaBy.{SigmaBy}
 use Rattle.solver.specs.Call.{FitInputs, Buffers, sizes_of}
 use Rattle.design.specs.Design.{Run, run_of}
-use Rattle.validate.specs.Questions.{asked}
+use Rattle.validate.specs.Questions.{asked_of}
 use Rattle.outcome.specs.Outcome.{factorised_in, Tells, finished}
 use Rattle.outcome.proofs.Sweeps as Sweeps
 use Rattle.lm_system.specs.System.{huber_k_of, weighed_column, lm_step}
@@ -31,7 +31,7 @@ module _ (r : Run) (o : IterOptions) (chi2 : Float) (s : List Float) where
   unfolding lm_step
   settled = ap (λ (x : Solved). x.outcome.settled) (undamped _ _ _ _ _ _) ∙ sweeps_settled _ _ _ _ _ _
 
-module _ (l : FitInputs) (by : SigmaBy) (o : IterOptions) (b : Buffers) (x : FitResult) (done : (iterated_outcome l by o b).answer ≡ Done x) where
+module _ (l : FitInputs) (by : SigmaBy) (o : IterOptions) (b : Buffers) (x : FitResult) (done : (iterated_outcome l by o b).answer ≡ Ok x) where
   -- of the columns weighed as the set has it at which the loop has ended
   pub tells : let r = run_of l in
       let p = lm_loop r o l.coefficients in
@@ -41,7 +41,7 @@ module _ (l : FitInputs) (by : SigmaBy) (o : IterOptions) (b : Buffers) (x : Fit
       let r = run_of l in
       let p = lm_loop r o l.coefficients in
       let chi2 = p.how.prev_chi2 in
-      Sweeps.tells (asked l o (sizes_of b)) (fitted l by o b) b _ x (told r o chi2 p.set) refl
+      Sweeps.tells (asked_of l o (sizes_of b)) (fitted l by o b) b _ x (told r o chi2 p.set) refl
       (record { sweeps = made r o chi2 p.set; settled = settled r o chi2 p.set }) done
 
   pub limited : SweepsInLimit x.sweeps x.settled

@@ -1,11 +1,11 @@
 -- Demand 3, of the iterated fit: the set that it returns is the best of all the sets that it tries. Definitions only.
-use Rattle.std.specs.Prelude.{ℕ, ◌+◌, ◌≤◌, ◌<◌, ◌≡◌, false, length, take, Float}
+use Rattle.std.specs.Prelude.{ℕ, ◌+◌, ◌≤◌, ◌<◌, ◌≡◌, false, Result, Ok, Err, length, take, Float}
 use mathlib.Core.List.{List, Memᴰ}
 use Rattle.sequence.specs.Sequence.{at}
 use Rattle.best.specs.ChiSquare.{Frac, exact_sum, AllTame, AtMost}
 use Rattle.best.specs.Trials.{tried}
-use Rattle.solver.specs.declared.Fit.{Fit}
-use Rattle.solver.specs.declared.Fit.TheVariants.{Done, Refused}
+use Rattle.refusal.specs.declared.Refusal.{Refusal}
+use Rattle.solver.specs.declared.FitResult.{FitResult}
 use Rattle.solver.specs.declared.IterOptions.{IterOptions}
 use Rattle.solver.specs.Call.{FitInputs}
 use Rattle.design.specs.Design.{Run, run_of, is_free}
@@ -34,6 +34,6 @@ pub record BestOfTried (l : FitInputs) (o : IterOptions) (s : List Float) (itera
   pub limited : iterations ≤ o.max_iter
 
 -- of a call: its answer, and what the answer's coefficients hold at the end, m of which are the set
-abbrev pub Demand3 : FitInputs → IterOptions → Fit → List Float → Type 0
-Demand3 l o (Done r) out = BestOfTried l o (take (length l.coefficients) out) r.iter_report.iterations
-Demand3 l o (Refused k) out = Unit {0}
+abbrev pub Demand3 : FitInputs → IterOptions → Result FitResult Refusal → List Float → Type 0
+Demand3 l o (Ok r) out = BestOfTried l o (take (length l.coefficients) out) r.iter_report.iterations
+Demand3 l o (Err why) out = Unit {0}

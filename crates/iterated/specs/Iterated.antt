@@ -13,7 +13,7 @@ use Rattle.solver.specs.declared.IterOptions.{IterOptions}
 use Rattle.solver.specs.declared.IterReport.{IterReport}
 use Rattle.solver.specs.declared.SigmaBy.{SigmaBy}
 use Rattle.solver.specs.Call.{FitInputs, Buffers, sizes_of}
-use Rattle.validate.specs.Questions.{scratch_needed, asked}
+use Rattle.validate.specs.Questions.{scratch_needed, asked_of}
 use Rattle.design.specs.Design.{Run, RunInputs, run_from, run_of, rows_of, product, extracted}
 use Rattle.outcome.specs.Outcome.{Outcome, decided, finished}
 use Rattle.outcome.specs.Scratch.{residuals_in, b_in, sky_in, solved_in}
@@ -139,7 +139,7 @@ abbrev pub fitted : FitInputs → SigmaBy → IterOptions → Buffers → Outcom
 fitted l by o b = fitted_run (run_of l) by (scratch_needed (length l.coefficients) (length l.dh)) l.coefficients o b
 
 unfoldable pub iterated_outcome : FitInputs → SigmaBy → IterOptions → Buffers → Outcome
-iterated_outcome l by o b = decided (asked l o (sizes_of b)) (fitted l by o b) b
+iterated_outcome l by o b = decided (asked_of l o (sizes_of b)) (fitted l by o b) b
 
 -- ---- what the functions leave
 

@@ -6,21 +6,22 @@ ghost use Rattle.std.specs.Prelude.{◌≡◌, ◌+◌, ◌*◌, ◌≤◌, leng
 ghost use mathlib.Core.List.{zip_with};
 ghost use Rattle.std.specs.Float.Ieee.{sub};
 ghost use Rattle.std.specs.Float.{binary64};
-ghost use Rattle.solver.specs.Call.{FitInputs, inputs, buffers, sizes_of};
-ghost use Rattle.design.specs.Design.{RunInputs, run_inputs, run_from};
-ghost use Rattle.design.specs.Counted.{Counted};
+ghost use Rattle.solver.specs.Call.{buffers, sizes_of};
+ghost use Rattle.design.specs.Design.{run_from};
 ghost use Rattle.validate.specs.Questions.{Ready};
 ghost use Rattle.outcome.specs.Outcome.{outcome};
-ghost use Rattle.outcome.specs.Scratch.{count_of, Fits};
+ghost use Rattle.outcome.specs.Scratch.{count_of, height_in, Fits};
 ghost use Rattle.iterated.specs.Iterated.{tried_to, trial_of, lm_loop, Left, Proposed, LastTried, fitted_run, fitted, iterated_outcome};
 ghost use Rattle.iterated.specs.Demand3.{Demand3};
 
+use design::run::RunInput;
 use limits::{MAX_STARS, MAX_TERMS};
 use linalg::SolveOutcome;
-use solver::{Fit, FitResult, IterOptions, IterReport, Settings, SigmaBy, Sizes};
-use validate::Asked;
+use refusal::Refusal;
+use solver::input::FitInput;
+use solver::{FitResult, IterOptions, IterReport, SigmaBy, Sizes};
 
-// What comes of a trial: its chi-square and the step's length where it is kept, and else the raised damping.
+// What comes of a trial: its chi-square and the step's length where it is kept, and else the raised damping. No Result, as a rejected trial is no error.
 #[derive(Clone, Copy)]
 pub enum Trial {
     Accepted(f64, f64),
@@ -47,44 +48,15 @@ struct Proposal {
 
 // What the step at a damping proposes, with the weights that belong to k. The residuals of the set lie at 2·n, and at the end those of the
 // proposal.
-fn propose(
-    names: &[u8],
-    free: &[u16],
-    set: &[f64],
-    dh: &[f64],
-    dd: &[f64],
-    pier: &[u8],
-    sheets: &[f64],
-    used: &[u16],
-    s: Settings,
-    k: f64,
-    lambda: f64,
-    w: &mut [f64],
-) -> Proposal
-    ghost l: { RunInputs }
-    requires s_value { run_inputs (length set.now) names.now free.now dh.now dd.now pier.now sheets.now used.now s ≡ l }
-    requires fits { Fits l w.old × Left l set.now w.old }
-    ensures { Proposed l k lambda set.now w.new result.set result.chi2 result.solved }
+// That scratch fits a run is a clause, here and below: a struct of both would owe that it lends the same scratch.
+fn propose(run: &RunInput, set: &[f64], k: f64, lambda: f64, w: &mut [f64]) -> Proposal
+    requires { (length set.now ≡ run.now.m) × Fits run.now w.old × Left run.now set.now w.old }
+    ensures { Proposed run.now k lambda set.now w.new result.set result.chi2 result.solved }
 {
-    let m = set.len();
-    let v = 4 * used.len();
-    let solved = lm_system::lm_step(
-        names, free, set, dh, dd, pier, sheets, used, s, k, lambda, w,
-    );
-    let x = solved.x;
-    let trial = lm_system::trial_state_from(free, &x, set);
-    let chi2 = lm_system::chi2_at_state(
-        names,
-        free,
-        &trial[..m],
-        dh,
-        dd,
-        pier,
-        sheets,
-        used,
-        s,
-        &mut w[..v],
-    );
+    let v = 4 * run.sights.used.len();
+    let solved = lm_system::lm_step(run, set, k, lambda, w);
+    let trial = lm_system::trial_state_from(run.free, &solved.x, set);
+    let chi2 = lm_system::chi2_at_state(run, &trial[..set.len()], &mut w[..v]);
     Proposal {
         set: trial,
         chi2,
@@ -94,115 +66,69 @@ fn propose(
 
 // One trial. The set moves where its chi-square is strictly below the current one: a NaN fails. The residuals of the set lie at 2·n before and
 // after it.
+#[tactic(auto, using(design::proofs::Runs::named, design::proofs::Runs::read))]
 fn attempt(
-    names: &[u8],
-    free: &[u16],
-    dh: &[f64],
-    dd: &[f64],
-    pier: &[u8],
-    sheets: &[f64],
-    used: &[u16],
-    s: Settings,
+    run: &RunInput,
     options: IterOptions,
     chi2: f64,
     lambda: f64,
     set: &mut [f64],
     w: &mut [f64],
 ) -> Trial
-    ghost l: { RunInputs }
-    requires s_value { run_inputs (length set.old) names.now free.now dh.now dd.now pier.now sheets.now used.now s ≡ l }
-    requires fits { Fits l w.old × Left l set.old w.old }
-    ensures tried { tried_to result set.new ≡ trial_of (run_from l) options chi2 lambda set.old }
-    ensures left { Left l set.new w.new }
+    requires { (length set.old ≡ run.now.m) × Fits run.now w.old × Left run.now set.old w.old }
+    ensures tried { tried_to result set.new ≡ trial_of (run_from run.now) options chi2 lambda set.old }
+    ensures left { Left run.now set.new w.new }
 {
     let m = set.len();
-    let n = used.len();
-    let k = lm_system::huber_threshold(n, free.len(), options, chi2);
-    let next = propose(
-        names, free, set, dh, dd, pier, sheets, used, s, k, lambda, w,
-    );
-    let solved = next.solved;
-    let x = solved.x;
-    let trial = next.set;
+    let n = run.sights.used.len();
+    let free = run.free.len();
+    let k = lm_system::huber_threshold(n, free, options, chi2);
+    let next = propose(run, set, k, lambda, w);
     if next.chi2 < chi2 {
-        sequence::copy(&trial[..m], set);
-        let f = free.len();
-        let norm = lm_system::rotational_step_norm(names, free, &x[..f]);
+        set.copy_from_slice(&next.set[..m]);
+        let norm = lm_system::rotational_step_norm(run.names, run.free, &next.solved.x[..free]);
         return Trial::Accepted(next.chi2, norm);
     }
-    let v = 4 * n;
-    lm_system::residuals_under_state(names, free, set, dh, dd, pier, sheets, used, s, &mut w[..v]);
+    lm_system::residuals_under_state(run, set, &mut w[..4 * n]);
     Trial::Rejected(lambda * options.lambda_up)
 }
 
 // The loop of damped trials.
-fn run_lm_loop(
-    names: &[u8],
-    free: &[u16],
-    dh: &[f64],
-    dd: &[f64],
-    pier: &[u8],
-    sheets: &[f64],
-    used: &[u16],
-    s: Settings,
-    options: IterOptions,
-    set: &mut [f64],
-    w: &mut [f64],
-) -> LmLoopResult
-    ghost l: { RunInputs }
-    requires s_value { run_inputs (length set.old) names.now free.now dh.now dd.now pier.now sheets.now used.now s ≡ l }
-    requires fits { Fits l w.old }
-    ensures reported { record { set = set.exit.now; how = result } ≡ lm_loop (run_from l) options set.entry.now }
-    ensures left { Left l set.new w.new }
+fn run_lm_loop(run: &RunInput, options: IterOptions, set: &mut [f64], w: &mut [f64]) -> LmLoopResult
+    requires { (length set.old ≡ run.now.m) × Fits run.now w.old }
+    ensures reported { record { set = set.new; how = result } ≡ lm_loop (run_from run.now) options set.old }
+    ensures left { Left run.now set.new w.new }
 {
-    let limit = options.max_iter;
-    let v = 4 * used.len();
-    let mut chi2 = lm_system::chi2_at_state(
-        names,
-        free,
-        set,
-        dh,
-        dd,
-        pier,
-        sheets,
-        used,
-        s,
-        &mut w[..v],
-    );
-    let mut lambda = options.initial_lambda;
-    let mut iterations = 0usize;
-    let mut converged = false;
-    let mut last_step_norm = 1.0 / 0.0;
-    while iterations < limit {
-        iterations += 1;
-        let trial = attempt(
-            names, free, dh, dd, pier, sheets, used, s, options, chi2, lambda, set, w,
-        );
-        match trial {
-            Trial::Accepted(next, norm) => {
-                chi2 = next;
-                lambda = lambda / options.lambda_down;
-                last_step_norm = norm;
+    let v = 4 * run.sights.used.len();
+    let chi2 = lm_system::chi2_at_state(run, set, &mut w[..v]);
+    let mut lm = LmLoopResult {
+        iterations: 0,
+        converged: false,
+        lambda: options.initial_lambda,
+        last_step_norm: f64::INFINITY,
+        prev_chi2: chi2,
+    };
+    for i in 0..options.max_iter {
+        lm.iterations = i + 1;
+        match attempt(run, options, lm.prev_chi2, lm.lambda, set, w) {
+            Trial::Accepted(chi2, norm) => {
+                lm.prev_chi2 = chi2;
+                lm.lambda /= options.lambda_down;
+                lm.last_step_norm = norm;
                 if norm < options.tol_rad {
-                    converged = true;
+                    lm.converged = true;
                     break;
                 }
             }
             Trial::Rejected(raised) => {
-                lambda = raised;
+                lm.lambda = raised;
                 if raised > 1.0e12 {
                     break;
                 }
             }
         }
     }
-    LmLoopResult {
-        iterations,
-        converged,
-        lambda,
-        last_step_norm,
-        prev_chi2: chi2,
-    }
+    lm
 }
 
 // The chi-square of the set after the last trial, and the solver's answer.
@@ -214,66 +140,54 @@ struct LastTrial {
 
 // The last, undamped trial, kept where it is not above. It leaves at 2·n the residuals of its step, kept or not.
 fn apply_final_step(
-    names: &[u8],
-    free: &[u16],
-    dh: &[f64],
-    dd: &[f64],
-    pier: &[u8],
-    sheets: &[f64],
-    used: &[u16],
-    s: Settings,
+    run: &RunInput,
     options: IterOptions,
     chi2: f64,
     set: &mut [f64],
     w: &mut [f64],
 ) -> LastTrial
-    ghost l: { RunInputs }
-    requires s_value { run_inputs (length set.old) names.now free.now dh.now dd.now pier.now sheets.now used.now s ≡ l }
-    requires fits { Fits l w.old × Left l set.old w.old }
-    ensures { LastTried l options chi2 set.old w.new set.new result.chi2 result.solved }
+    requires { (length set.old ≡ run.now.m) × Fits run.now w.old × Left run.now set.old w.old }
+    ensures { LastTried run.now options chi2 set.old w.new set.new result.chi2 result.solved }
 {
     let m = set.len();
-    let n = used.len();
-    let k = lm_system::huber_threshold(n, free.len(), options, chi2);
-    let last = propose(names, free, set, dh, dd, pier, sheets, used, s, k, 0.0, w);
-    let solved = last.solved;
-    let x = solved.x;
-    let trial = last.set;
+    let n = run.sights.used.len();
+    let k = lm_system::huber_threshold(n, run.free.len(), options, chi2);
+    let last = propose(run, set, k, 0.0, w);
     let mut least = chi2;
     if last.chi2 <= chi2 {
-        sequence::copy(&trial[..m], set);
+        set.copy_from_slice(&last.set[..m]);
         least = last.chi2;
     }
-    let v = 8 * n;
-    outcome::free_residuals(names, free, pier, sheets, used, s, k, &x, &mut w[..v]);
+    outcome::free_residuals(
+        &run.sights,
+        run.names,
+        run.free,
+        k,
+        &last.solved.x,
+        &mut w[..8 * n],
+    );
     LastTrial {
         chi2: least,
-        solved,
+        solved: last.solved,
     }
 }
 
-// A set less the start.
+// A set less the start, written by its places: of what a zip lends to write, a proof knows the length alone.
 fn changes(set: &[f64], start: &[f64], change: &mut [f64])
     requires { (length start.now ≡ length set.now) × (length change.old ≡ length set.now) }
     ensures { change.new ≡ zip_with (sub binary64) set.now start.now }
 {
-    for j in 0..set.len() {
-        change[j] = set[j] - start[j];
+    for (j, x) in change.iter_mut().enumerate() {
+        *x = set[j] - start[j];
     }
 }
 
 // The fit of a run that needs so much of scratch: from the coefficients as lent through the loop and the last trial. The set in hand lies at the front of
-// the answer's coefficients.
+// the answer's coefficients. The buffers come one by one, here and below: a struct that lends them would owe in each contract that its references
+// stay the same.
 fn fit_run(
-    names: &[u8],
-    free: &[u16],
+    run: &RunInput,
     coefficients: &[f64],
-    dh: &[f64],
-    dd: &[f64],
-    pier: &[u8],
-    sheets: &[f64],
-    used: &[u16],
-    s: Settings,
     sigma_by: SigmaBy,
     options: IterOptions,
     need: usize,
@@ -283,47 +197,26 @@ fn fit_run(
     diagnostics: &mut [f64],
     scratch: &mut [f64],
 ) -> FitResult
-    ghost l: { RunInputs }
-    requires s_value { run_inputs (length coefficients.now) names.now free.now dh.now dd.now pier.now sheets.now used.now s ≡ l }
-    requires counted { Counted l × (8 * count_of l + l.m * (2 * count_of l + 2 * l.m) ≤ need) × (need ≤ length scratch.old) × (l.m ≤ length out.old)
-        × (l.m ≤ length change.old) × (l.m ≤ length sigma.old) × (3 * count_of l ≤ length diagnostics.old) }
-    ensures { outcome (Fit.Done result) (buffers out.new change.new sigma.new diagnostics.new scratch.new)
-        ≡ fitted_run (run_from l) sigma_by need coefficients.now options
+    requires { (length coefficients.now ≡ run.now.m) × (8 * count_of run.now + run.now.m * height_in run.now ≤ need) × (need ≤ length scratch.old)
+        × (run.now.m ≤ length out.old) × (run.now.m ≤ length change.old) × (run.now.m ≤ length sigma.old)
+        × (3 * count_of run.now ≤ length diagnostics.old) }
+    ensures { outcome (Ok result) (buffers out.new change.new sigma.new diagnostics.new scratch.new)
+        ≡ fitted_run (run_from run.now) sigma_by need coefficients.now options
         (buffers out.old change.old sigma.old diagnostics.old scratch.old) }
 {
-    let m = coefficients.len();
-    let n = used.len();
-    sequence::copy(coefficients, &mut out[..m]);
-    let lm = run_lm_loop(
-        names,
-        free,
-        dh,
-        dd,
-        pier,
-        sheets,
-        used,
-        s,
-        options,
-        &mut out[..m],
-        &mut scratch[..need],
-    );
+    let n = run.sights.used.len();
+    let m = run.m;
+    out[..m].copy_from_slice(coefficients);
+    let lm = run_lm_loop(run, options, &mut out[..m], &mut scratch[..need]);
     let last = apply_final_step(
-        names,
-        free,
-        dh,
-        dd,
-        pier,
-        sheets,
-        used,
-        s,
+        run,
         options,
         lm.prev_chi2,
         &mut out[..m],
         &mut scratch[..need],
     );
-    let solved = last.solved;
     changes(&out[..m], coefficients, &mut change[..m]);
-    let sky = stats::sky_of_sum(last.chi2, n, free.len());
+    let sky = stats::sky_of_sum(last.chi2, n, run.free.len());
     let report = IterReport {
         iterations: lm.iterations,
         converged: lm.converged,
@@ -331,12 +224,12 @@ fn fit_run(
         final_step_norm: lm.last_step_norm,
     };
     outcome::finish(
-        free,
+        run.free,
         n,
         m,
-        s,
+        run.sights.settings,
         sigma_by,
-        solved,
+        last.solved,
         sky,
         report,
         sigma,
@@ -345,16 +238,10 @@ fn fit_run(
     )
 }
 
-// A fit whose questions are all passed: the free terms and the stars that count are listed once.
+// A fit whose questions are all passed: the free terms and the stars that count are listed once, in arrays of the limits, since there is no heap.
+// The lists are made in both fits, as a run borrows them. Ready is a clause and no type: it speaks of the buffers' lengths too.
 pub fn fit(
-    names: &[u8],
-    fixed: &[u8],
-    coefficients: &[f64],
-    dh: &[f64],
-    dd: &[f64],
-    pier: &[u8],
-    sheets: &[f64],
-    s: Settings,
+    input: &FitInput,
     sigma_by: SigmaBy,
     options: IterOptions,
     out: &mut [f64],
@@ -363,29 +250,21 @@ pub fn fit(
     diagnostics: &mut [f64],
     scratch: &mut [f64],
 ) -> FitResult
-    ghost l: { FitInputs }
-    requires s_value { inputs names.now fixed.now coefficients.now dh.now dd.now pier.now sheets.now s ≡ l }
-    requires ready { Ready l (sizes_of (buffers out.old change.old sigma.old diagnostics.old scratch.old)) }
-    ensures { outcome (Fit.Done result) (buffers out.new change.new sigma.new diagnostics.new scratch.new)
-        ≡ fitted l sigma_by options
+    requires { Ready input.now (sizes_of (buffers out.old change.old sigma.old diagnostics.old scratch.old)) }
+    ensures { outcome (Ok result) (buffers out.new change.new sigma.new diagnostics.new scratch.new)
+        ≡ fitted input.now sigma_by options
         (buffers out.old change.old sigma.old diagnostics.old scratch.old) }
 {
-    let n = dh.len();
-    let need = validate::scratch_needed(coefficients.len(), n);
+    let n = input.dh.len();
+    let need = validate::scratch_needed(input.coefficients.len(), n);
     let mut terms = [0u16; MAX_TERMS];
-    let free = validate::collect_indices(fixed, &mut terms[..]);
+    let free = validate::collect_indices(input.fixed, &mut terms[..]);
     let mut stars = [0u16; MAX_STARS];
     validate::all_indices(n, &mut stars[..]);
+    let run = validate::run_input(input, &terms[..free], &stars[..n]);
     fit_run(
-        names,
-        &terms[..free],
-        coefficients,
-        dh,
-        dd,
-        pier,
-        sheets,
-        &stars[..n],
-        s,
+        &run,
+        input.coefficients,
         sigma_by,
         options,
         need,
@@ -398,16 +277,9 @@ pub fn fit(
 }
 
 // The iterated fit of m terms to n stars, robust or not: the best set that it tried, its change and sigma, and three numbers a star, or the
-// number of the first question that is answered no, which leaves every buffer as it was.
+// refusal of the first question that is answered no, which leaves every buffer as it was.
 pub fn fit_model_iterated(
-    names: &[u8],
-    fixed: &[u8],
-    coefficients: &[f64],
-    dh: &[f64],
-    dd: &[f64],
-    pier: &[u8],
-    sheets: &[f64],
-    settings: Settings,
+    input: &FitInput,
     sigma_by: SigmaBy,
     options: IterOptions,
     out: &mut [f64],
@@ -415,14 +287,11 @@ pub fn fit_model_iterated(
     sigma: &mut [f64],
     diagnostics: &mut [f64],
     scratch: &mut [f64],
-) -> Fit
+) -> Result<FitResult, Refusal>
     ensures equal { outcome result (buffers out.new change.new sigma.new diagnostics.new scratch.new)
-        ≡ iterated_outcome (inputs names.now fixed.now coefficients.now dh.now dd.now
-        pier.now sheets.now settings) sigma_by options
+        ≡ iterated_outcome input.now sigma_by options
         (buffers out.old change.old sigma.old diagnostics.old scratch.old) }
-    ensures demand { Demand3 (inputs names.now fixed.now coefficients.now dh.now dd.now
-        pier.now sheets.now settings) options
-        result out.new }
+    ensures demand { Demand3 input.now options result out.new }
 {
     let room = Sizes {
         coefficients: out.len(),
@@ -431,36 +300,15 @@ pub fn fit_model_iterated(
         diagnostics: diagnostics.len(),
         scratch: scratch.len(),
     };
-    let asked = validate::questions(
-        names,
-        fixed,
-        coefficients,
-        dh,
-        dd,
-        pier,
-        sheets,
-        settings,
+    validate::questions(input, options, room)?;
+    Ok(fit(
+        input,
+        sigma_by,
         options,
-        room,
-    );
-    match asked {
-        Asked::No(k) => Fit::Refused(k),
-        Asked::Pass => Fit::Done(fit(
-            names,
-            fixed,
-            coefficients,
-            dh,
-            dd,
-            pier,
-            sheets,
-            settings,
-            sigma_by,
-            options,
-            out,
-            change,
-            sigma,
-            diagnostics,
-            scratch,
-        )),
-    }
+        out,
+        change,
+        sigma,
+        diagnostics,
+        scratch,
+    ))
 }

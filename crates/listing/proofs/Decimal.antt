@@ -1,13 +1,14 @@
--- The decimal digits of a number from those of its tenth, and how many there are. Assumes nothing.
-use Prim.Native.Nat.{ℕ, zero, suc, ◌+◌, ◌*◌, ◌/◌, ◌%◌, ◌^◌, ◌≤◌, ◌<◌}
-use native.Mathlib.Nat.{pow-suc}
+-- The library's decimal digits of a number are those of specs/Text.antt, at most 20. Assumes nothing.
+use Prim.Native.Nat.{ℕ, zero, suc, ◌+◌, ◌-◌, ◌/◌, ◌%◌, ◌^◌, ◌≤◌, ◌<◌}
 use native.Mathlib.Omega.{arith}
-use mathlib.Core.Path.{◌≡◌, refl, ap, ◌∙◌}
+use mathlib.Core.Path.{◌≡◌, refl, ap}
 use mathlib.Core.Bool.{Bool, true, false, cond}
-use mathlib.Core.List.{[], ◌∷◌, ◌++◌}
+use mathlib.Core.List.{List, [], ◌∷◌, ◌++◌}
 use borrow.Author.Tests.{lt-ltb, le-ltb, ltb-false}
 use lib.Dec.{ltb}
-use lib.ListN.{length, length-append}
+use lib.ListN.{length}
+use Rattle.std.specs.Fmt as Fmt
+use Rattle.std.proofs.lemmas.Fmt.{decimal_by_steps, length-decimal-le}
 use Rattle.listing.specs.Text.{digit, last_digits, decimal}
 
 tenth : (v : ℕ) → 10 ≤ v → v / 10 < v
@@ -25,36 +26,23 @@ enough (suc a) (suc b) v p q = by (ltb v 10) refl (λ h. let t = tenth v h in en
     by true e f = rw e
     by false e f = rw (e, f (ltb-false v 10 e))
 
-pub decimal-small : (v : ℕ) → v < 10 → decimal v ≡ digit (v % 10) ∷ []
+pub digit-small : (d : ℕ) → d < 10 → 48 + d ≡ digit d
+unfolding digit
+digit-small d h = rw (lt-ltb d 10 h)
+
+pub digit_large : (d : ℕ) → 10 ≤ d → 97 + (d - 10) ≡ digit d
+unfolding digit
+digit_large d h = rw (le-ltb d 10 h)
+
+one : (v : ℕ) → v < 10 → (48 + v) ∷ [] ≡ decimal v
 unfolding decimal last_digits
-decimal-small v h = rw (lt-ltb v 10 h)
+one v h =
+    let e : v % 10 ≡ v = omega arith in
+    rw (lt-ltb v 10 h, e, digit-small v h)
 
-pub decimal_large : (v : ℕ) → 10 ≤ v → decimal v ≡ decimal (v / 10) ++ (digit (v % 10) ∷ [])
+more : (v : ℕ) (ds : List ℕ) → 10 ≤ v → ds ≡ decimal (v / 10) → ds ++ ((48 + v % 10) ∷ []) ≡ decimal v
 unfolding decimal last_digits
-decimal_large v h = rw (le-ltb v 10 h, enough v (suc (v / 10)) (v / 10) (tenth v h) (omega arith))
+more v ds h e = rw (e, le-ltb v 10 h, enough (suc (v / 10)) v (v / 10) (omega arith) (tenth v h), digit-small (v % 10) (omega arith))
 
-pub small-length : (v : ℕ) → v < 10 → length (decimal v) ≡ 1
-small-length v h = ap length (decimal-small v h)
-
-pub large_length : (v : ℕ) → 10 ≤ v → length (decimal v) ≡ length (decimal (v / 10)) + 1
-large_length v h = ap length (decimal_large v h) ∙ length-append (decimal (v / 10)) (digit (v % 10) ∷ [])
-
--- a number below 10 ^ (k + 1) has at most k + 1 digits
-short : (a k v : ℕ) → v < 10 * 10 ^ k → length (last_digits a v) ≤ suc k
-unfolding last_digits
-short zero k v h = omega arith
-short (suc a) zero v h =
-    let z : v < 10 = omega arith in
-    rw (lt-ltb v 10 z) (omega arith)
-short (suc a) (suc k) v h =
-    let p = pow-suc 10 k in
-    let g : v / 10 < 10 * 10 ^ k = omega arith in
-    by (ltb v 10) (short a k (v / 10) g)
-  where
-    by : (t : Bool) → length (last_digits a (v / 10)) ≤ suc k → length (cond t [] (last_digits a (v / 10)) ++ (digit (v % 10) ∷ [])) ≤ suc (suc k)
-    by true g = omega arith
-    by false g = simp length-append (omega arith)
-
-pub decimal_short : (v : ℕ) → v < 2 ^ 64 → length (decimal v) ≤ 20
-unfolding decimal
-decimal_short v h = short (suc v) 19 v (omega arith)
+pub written : (v : ℕ) → v < 2 ^ 64 → Fmt.decimal v ≡ decimal v
+written v h = decimal_by_steps (λ n ds. ds ≡ decimal n) one more v h

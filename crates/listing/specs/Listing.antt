@@ -3,7 +3,7 @@ use Rattle.std.specs.Prelude.{ℕ, ◌*◌, Bool, cond, List, ◌++◌, Float}
 use Rattle.limits.specs.Limits.{slot_bytes}
 use Rattle.sequence.specs.Sequence.{at, part, concat_to}
 use Rattle.harmonic.specs.Table.{ascii}
-use Rattle.terms.specs.Names.{name_of, read_term}
+use Rattle.terms.specs.Names.{name_of, read_term, term_or_blank}
 use Rattle.solver.specs.declared.FitResult.{FitResult}
 use Rattle.listing.specs.Text.{spaced, flag, bits_of, newline}
 
@@ -24,7 +24,7 @@ pier_word sensitive = cond sensitive (ascii " pier") (ascii " both")
 -- the name that the term of a slot is stored by, its coefficient, its sigma and the word of its flag
 unfoldable pub term_line : List ℕ → Float → Float → List ℕ
 term_line slot coefficient sigma =
-    let t = (read_term slot).term in
+    let t = term_or_blank (read_term slot) in
     name_of t.name ++ floats coefficient sigma ++ pier_word t.pier_sensitive ++ newline
 
 unfoldable pub term_lines : List ℕ → ℕ → List Float → List Float → List ℕ
@@ -38,8 +38,3 @@ fit_text names m coefficients sigma r = counts_line r ++ term_lines names m coef
 
 unfoldable pub refusal_text : ℕ → List ℕ
 refusal_text number = ascii "no" ++ spaced number ++ newline
-
--- Room for any listing of 16 terms. A count has at most 20 digits and a name at most 16 bytes, so that the first line has at most 96 bytes,
--- a term's line 56 and the last 38.
-abbrev pub listing_room : ℕ
-listing_room = 1030

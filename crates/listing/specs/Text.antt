@@ -46,3 +46,8 @@ pub record Wrote (text : List ℕ) (place : ℕ) (was is : List ℕ) (next : ℕ
   pub buffer : is ≡ sets was place text
   pub end : next ≡ place + length text
   pub room : next ≤ length was
+
+-- Room for any listing of 16 terms. A count has at most 20 digits and a name at most 16 bytes, so that the first line has at most 96 bytes,
+-- a term's line 56 and the last 38.
+abbrev pub listing_room : ℕ
+listing_room = 1030

@@ -3,7 +3,6 @@ use Prim.Native.Char.{code}
 use Prim.Native.Nat.{ℕ, zero, suc, ◌-◌, ◌≤◌, ◌<◌}
 use native.Mathlib.Omega.{arith}
 use mathlib.Core.Path.{◌≡◌, refl, sym, ◌∙◌, ap, ap₂, subst}
-use mathlib.Core.Option.{Option, none, some}
 use mathlib.Core.Bool.{Bool, true, false, cond, ◌&&◌, ◌||◌, false≢true}
 use mathlib.Core.List.{List, [], ◌∷◌, ◌++◌, map}
 use borrow.Author.Tests.{eq-eqb, eqb-true, eqb-false, ne_eqb, lt-ltb, ltb-true, leb-true, lt-leb}
@@ -13,15 +12,18 @@ use lib.Seq.{drop_at}
 use Rattle.sequence.specs.Sequence.{every}
 use Rattle.sequence.proofs.Tests.{left_of, right_of}
 use Rattle.harmonic.specs.Table.{ascii}
-use Rattle.harmonic.specs.Harmonic.{array_of, parse_harmonic}
-use Rattle.harmonic.specs.declared.HarmonicRead.{HarmonicRead}
+use Rattle.harmonic.specs.Harmonic.{parse_harmonic}
+use Rattle.harmonic.specs.declared.Harmonic.{Harmonic}
+use Rattle.std.specs.Prelude.{Option, None, Some, Result, Ok, Err}
+use Rattle.refusal.specs.declared.Refusal.{Refusal}
+use Rattle.refusal.specs.declared.Refusal.TheVariants.{Lengths, NotAName, UnknownTerm}
 use Rattle.equatorial.specs.declared.EquatorialTerm.TheVariants.{TXN}
-use Rattle.terms.specs.Names.{same, accepted, refused, capital, padded, name_of, well_formed, read_term, by_known, find, fixed_names}
+use Rattle.terms.specs.Names.{same, accepted, term_or_blank, capital, padded, name_of, well_formed, read_term, by_known, find, fixed_names}
 use Rattle.terms.specs.Names.{numbered, read_harmonic, harmonic_of, unsigned, digits_from, short_decimal}
-use Rattle.terms.specs.declared.Reading.{Reading}
+use Rattle.terms.specs.declared.Term.{Term}
 use Rattle.terms.specs.declared.TermKind.{TermKind}
 use Rattle.terms.specs.declared.names.Known.{Known}
-use Rattle.terms.specs.declared.names.Known.TheVariants.{Equatorial, AltAz, Other}
+use Rattle.terms.specs.declared.names.Known.TheVariants.{Equatorial, AltAz}
 use Rattle.sequence.proofs.Fills.{last_or}
 
 -- ---- capitals
@@ -132,10 +134,13 @@ all_at (suc n) i p e h =
 abbrev number_name : ℕ → List ℕ
 number_name v = padded (ascii "TX" ++ short_decimal v)
 
+-- whether a reading is of a term that is stored as l
+abbrev stored_as : List ℕ → Result Term Refusal → Bool
+stored_as l (Ok t) = same t.name l
+stored_as l (Err why) = false
+
 good : ℕ → Bool
-good v =
-    leb v 0
-    || eqb (length (number_name v)) 16 && (eqb (read_term (number_name v)).refusal 0 && same (read_term (number_name v)).term.name (number_name v))
+good v = leb v 0 || eqb (length (number_name v)) 16 && stored_as (number_name v) (read_term (number_name v))
 
 all_good : all_to 256 good ≡ true
 unfolding all_to good read_term well_formed name_of by_known unsigned digits_from
@@ -144,17 +149,21 @@ all_good = refl
 -- a name that is stored: of sixteen bytes, which are read, and stored as themselves
 pub record Settled (l : List ℕ) : Type 0 where
   pub sixteen : length l ≡ 16
-  pub read : (read_term l).refusal ≡ 0
-  pub kept : (read_term l).term.name ≡ l
+  pub term : Term
+  pub read : read_term l ≡ Ok term
+  pub kept : term.name ≡ l
 
-settled : (l : List ℕ) → (eqb (length l) 16 && (eqb (read_term l).refusal 0 && same (read_term l).term.name l)) ≡ true → Settled l
-settled l e =
-    let later = right_of (eqb (length l) 16) (eqb (read_term l).refusal 0 && same (read_term l).term.name l) e in
-    record {
-      sixteen = eqb-true _ 16 (left_of (eqb (length l) 16) (eqb (read_term l).refusal 0 && same (read_term l).term.name l) e);
-      read = eqb-true _ 0 (left_of (eqb (read_term l).refusal 0) (same (read_term l).term.name l) later);
-      kept = same_equal (read_term l).term.name l (right_of (eqb (read_term l).refusal 0) (same (read_term l).term.name l) later);
+settled : (l : List ℕ) → (eqb (length l) 16 && stored_as l (read_term l)) ≡ true → Settled l
+settled l e = by (read_term l) refl (right_of (eqb (length l) 16) (stored_as l (read_term l)) e)
+  where
+    by : (r : Result Term Refusal) → read_term l ≡ r → stored_as l r ≡ true → Settled l
+    by (Ok t) read k = record {
+      sixteen = eqb-true _ 16 (left_of (eqb (length l) 16) (stored_as l (read_term l)) e);
+      term = t;
+      read = read;
+      kept = same_equal t.name l k;
     }
+    by (Err why) read k = absurd (false≢true k)
 
 number_settled : (v : ℕ) → (leb 1 v && leb v 255) ≡ true → Settled (number_name v)
 unfolding good
@@ -165,62 +174,58 @@ number_settled v e =
 
 -- ---- the name that is stored is the padded one, or TX and a number
 
-module _ (P : List ℕ → Type 0) (n : List ℕ) (same_name : P (padded n)) (number-name : (v : ℕ) → (leb 1 v && leb v 255) ≡ true → P (number_name v)) where
-  either : (t : Bool) (a b : Reading) → (cond t a b).refusal ≡ 0 → (t ≡ true → a.refusal ≡ 0 → P a.term.name) → (b.refusal ≡ 0 → P b.term.name)
-      → P (cond t a b).term.name
+module _ (P : List ℕ → Type 0) (n : List ℕ)
+    (same_name : P (padded n)) (number-name : (v : ℕ) → (leb 1 v && leb v 255) ≡ true → P (number_name v)) (t : Term) where
+  either : (c : Bool) (a b : Result Term Refusal) → cond c a b ≡ Ok t → (c ≡ true → a ≡ Ok t → P t.name) → (b ≡ Ok t → P t.name) → P t.name
   either true a b e f g = f refl e
   either false a b e f g = g e
 
-  of_number : (o : Option ℕ) → (numbered o).refusal ≡ 0 → P (numbered o).term.name
-  of_number none e = absurd (omega arith)
-  of_number (some v) e =
-      either (leb 1 v && leb v 255) (accepted (TermKind.Equatorial (TXN v)) (ascii "TX" ++ short_decimal v) (array_of [])) (refused 9) e
-      (λ q z. number-name v q) (λ z. absurd (omega arith))
+  of_name : (kind : TermKind) (m : List ℕ) → accepted kind m ≡ Ok t → P (padded m) → P t.name
+  of_name kind m e p = subst P (ap (λ (r : Result Term Refusal). (term_or_blank r).name) e) p
 
-  of_harmonic : (h : HarmonicRead) → (harmonic_of n h).refusal ≡ 0 → P (harmonic_of n h).term.name
-  of_harmonic h e = either h.ok (accepted (TermKind.Harmonic h.result) n h.components) (refused 10) e (λ q z. same_name) (λ z. absurd (omega arith))
+  of_number : (o : Option ℕ) → numbered o ≡ Ok t → P t.name
+  of_number None e = absurd (cc)
+  of_number (Some v) e =
+      either (leb 1 v && leb v 255) (accepted (TermKind.Equatorial (TXN v)) (ascii "TX" ++ short_decimal v)) (Err UnknownTerm) e
+      (λ q z. of_name (TermKind.Equatorial (TXN v)) (ascii "TX" ++ short_decimal v) z (number-name v q)) (λ z. absurd (cc))
 
-  stored_of : (k : Known) → (by_known n k).refusal ≡ 0 → P (by_known n k).term.name
+  of_harmonic : (o : Option Harmonic) → harmonic_of n o ≡ Ok t → P t.name
+  of_harmonic None e = absurd (cc)
+  of_harmonic (Some h) e = of_name (TermKind.Harmonic h) n e same_name
+
+  stored_of : (k : Option Known) → by_known n k ≡ Ok t → P t.name
   unfolding by_known read_harmonic
-  stored_of (Equatorial t) e = same_name
-  stored_of AltAz e = absurd (omega arith)
-  stored_of Other e =
+  stored_of (Some (Equatorial q)) e = of_name (TermKind.Equatorial q) n e same_name
+  stored_of (Some AltAz) e = absurd (cc)
+  stored_of None e =
       either (eqb (get_or n 0 0) (code "T") && eqb (get_or n 1 0) (code "X")) (numbered (unsigned (drop 2 n))) _ e (λ q z. of_number (unsigned (drop 2 n)) z)
-      (λ z. either (eqb (get_or n 0 0) (code "H")) (read_harmonic n) (refused 9) z (λ q y. of_harmonic (parse_harmonic n) y) (λ y. absurd (omega arith)))
+      (λ z. either (eqb (get_or n 0 0) (code "H")) (read_harmonic n) (Err UnknownTerm) z (λ q y. of_harmonic (parse_harmonic n) y) (λ y. absurd (cc)))
 
 -- ---- a slot that is read
 
 -- its questions were answered yes
-pub slot_facts : (s : List ℕ) → (read_term s).refusal ≡ 0 → (length s ≡ 16) × (well_formed s ≡ true)
+pub slot_facts : (s : List ℕ) (t : Term) → read_term s ≡ Ok t → (length s ≡ 16) × (well_formed s ≡ true)
 unfolding read_term
-slot_facts s e = by (eqb (length s) 16) (well_formed s) _ refl e
+slot_facts s t e = by (eqb (length s) 16) (well_formed s) _ refl e
   where
-    by : (t w : Bool) (r : Reading) → eqb (length s) 16 ≡ t → (cond t (cond w r (refused 7)) (refused 2)).refusal ≡ 0 → (length s ≡ 16) × (w ≡ true)
+    by : (c w : Bool) (r : Result Term Refusal) → eqb (length s) 16 ≡ c → cond c (cond w r (Err NotAName)) (Err Lengths) ≡ Ok t
+        → (length s ≡ 16) × (w ≡ true)
     by true true r q e = (eqb-true _ 16 q, refl)
-    by true false r q e = absurd (omega arith)
-    by false w r q e = absurd (omega arith)
+    by true false r q e = absurd (cc)
+    by false w r q e = absurd (cc)
 
-module _ (s : List ℕ) (ok : (read_term s).refusal ≡ 0) where
+module _ (s : List ℕ) (t : Term) (ok : read_term s ≡ Ok t) where
   is_known : read_term s ≡ by_known (map capital (name_of s)) (find fixed_names (map capital (name_of s)))
   unfolding read_term
-  is_known = let facts = slot_facts s ok in rw (eq-eqb (length s) 16 facts.0, facts.1)
+  is_known = let facts = slot_facts s t ok in rw (eq-eqb (length s) 16 facts.0, facts.1)
 
   -- the padded name, where that is what is stored
-  padded-settled : (read_term s).term.name ≡ padded (map capital (name_of s)) → Settled (padded (map capital (name_of s)))
+  padded-settled : t.name ≡ padded (map capital (name_of s)) → Settled (padded (map capital (name_of s)))
   padded-settled e =
-      let facts = slot_facts s ok in
-      let again : read_term (padded (map capital (name_of s))) ≡ read_term s = read_again s facts.0 facts.1 in
-      record {
-        sixteen = padded-length s facts.0;
-        read = ap (λ (r : Reading). r.refusal) again ∙ ok;
-        kept = ap (λ (r : Reading). r.term.name) again ∙ e;
-      }
+      let facts = slot_facts s t ok in
+      record { sixteen = padded-length s facts.0; term = t; read = read_again s facts.0 facts.1 ∙ ok; kept = e }
 
-  pub read_stored : Settled (read_term s).term.name
+  pub read_stored : Settled t.name
   read_stored =
       let n = map capital (name_of s) in
-      let k = find fixed_names n in
-      let is : ((read_term s).term.name ≡ (by_known n k).term.name → Settled (by_known n k).term.name) =
-      stored_of (λ (l : List ℕ). (read_term s).term.name ≡ l → Settled l) n padded-settled (λ v q e. number_settled v q) k
-      (ap (λ (r : Reading). r.refusal) (sym is_known) ∙ ok) in
-      subst Settled (ap (λ (r : Reading). r.term.name) (sym is_known)) (is (ap (λ (r : Reading). r.term.name) is_known))
+      stored_of (λ (l : List ℕ). t.name ≡ l → Settled l) n padded-settled (λ v q e. number_settled v q) t (find fixed_names n) (sym is_known ∙ ok) refl

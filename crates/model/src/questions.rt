@@ -1,39 +1,38 @@
-// The questions of a model, given by its names and coefficients, and of what else a call takes, in the order of docs/SCOPE.md 10.2.
+// The questions of terms, given by their names and coefficients, and of what else a call takes, in the order of docs/SCOPE.md 10.2.
 
 ghost use Rattle.std.specs.Prelude.{◌≡◌, length};
-ghost use Rattle.model.specs.Model.{refusal_of};
+ghost use Rattle.model.specs.Model.{terms_asked};
 
 use limits::{MAX_TERMS, SLOT};
+use refusal::Refusal;
 
-// Whether what else a call takes has its length (2), its numbers are finite (4) and its code is known (5) is given. The number of the first
-// no, or 0.
-pub fn refusal_of(
-    names: &[u8],
-    coefficients: &[f64],
-    counted: bool,
-    finite: bool,
-    known: bool,
-) -> u8
-    ensures { result ≡ refusal_of (length coefficients.now) names.now coefficients.now counted finite known }
-{
-    let m = coefficients.len();
-    if MAX_TERMS < m {
-        return 1;
+// Terms by their names, a slot each, and their coefficients.
+#[derive(Clone, Copy)]
+pub struct Terms<'a> {
+    pub names: &'a [u8],
+    pub coefficients: &'a [f64],
+}
+
+impl Terms<'_> {
+    // Whether what else a call takes has its length (2), its numbers are finite (4) and its code is known (5) is given.
+    #[tactic(auto, unfolding(crate::specs::Model::terms_asked))]
+    pub fn ask(&self, counted: bool, finite: bool, known: bool) -> Result<(), Refusal>
+        ensures { result ≡ terms_asked (length self.now.coefficients.now) self.now.names.now self.now.coefficients.now
+            counted finite known }
+    {
+        let count = self.coefficients.len();
+        if MAX_TERMS < count {
+            return Err(Refusal::Limits);
+        }
+        if self.names.len() != SLOT * count || !counted {
+            return Err(Refusal::Lengths);
+        }
+        if !sequence::all_finite(self.coefficients) || !finite {
+            return Err(Refusal::NotFinite);
+        }
+        if !known {
+            return Err(Refusal::Code);
+        }
+        terms::names_read(self.names, count)
     }
-    if names.len() != SLOT * m {
-        return 2;
-    }
-    if !counted {
-        return 2;
-    }
-    if !sequence::all_finite(coefficients) {
-        return 4;
-    }
-    if !finite {
-        return 4;
-    }
-    if !known {
-        return 5;
-    }
-    terms::names_refusal(names, m)
 }

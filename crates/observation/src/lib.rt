@@ -7,7 +7,7 @@ ghost use Rattle.sequence.specs.Sequence.{at};
 ghost use Rattle.observation.specs.Observation.{sign_of, side_of};
 ghost use Rattle.observation.specs.Sheet.{point_of};
 
-#[derive(Clone, Copy)]
+#[derive(Clone, Copy, PartialEq, Eq, Debug)]
 pub enum PierSide {
     East,
     West,
@@ -19,22 +19,24 @@ impl PierSide {
         ensures { result ≡ sign_of self }
     {
         match self {
-            PierSide::East => 1.0,
+            PierSide::East | PierSide::Unknown => 1.0,
             PierSide::West => -1.0,
-            PierSide::Unknown => 1.0,
         }
     }
+}
 
-    pub fn from_code(code: u8) -> PierSide
+impl From<u8> for PierSide {
+    ghost from_gives = { λ code r. r ≡ side_of code };
+
+    // Every code above 2 is that of an unknown side too.
+    fn from(code: u8) -> PierSide
         ensures { result ≡ side_of code }
     {
-        if code == 1 {
-            return PierSide::East;
+        match code {
+            1 => PierSide::East,
+            2 => PierSide::West,
+            _ => PierSide::Unknown,
         }
-        if code == 2 {
-            return PierSide::West;
-        }
-        PierSide::Unknown
     }
 }
 
@@ -62,30 +64,23 @@ pub struct Point {
 pub fn number_at(sheet: &[f64], i: usize) -> f64
     ensures { result ≡ at sheet.now i }
 {
-    if i < sheet.len() {
-        return sheet[i];
-    }
-    0.0 / 0.0
+    sheet.get(i).copied().unwrap_or(0.0 / 0.0)
 }
 
 impl Point {
+    #[tactic(auto, unfolding(crate::specs::Sheet::point_of))]
     pub fn from_sheet(sheet: &[f64], sin_lat: f64, cos_lat: f64, pier: f64) -> Point
         ensures { result ≡ point_of sheet.now sin_lat cos_lat pier }
     {
-        let sin_h = number_at(sheet, 0);
-        let cos_h = number_at(sheet, 1);
-        let sin_dec = number_at(sheet, 18);
-        let cos_dec = number_at(sheet, 19);
-        let tan_dec = number_at(sheet, 36);
         Point {
-            sin_h: sin_h,
-            cos_h: cos_h,
-            sin_dec: sin_dec,
-            cos_dec: cos_dec,
-            tan_dec: tan_dec,
-            sin_lat: sin_lat,
-            cos_lat: cos_lat,
-            pier: pier,
+            sin_h: number_at(sheet, 0),
+            cos_h: number_at(sheet, 1),
+            sin_dec: number_at(sheet, 18),
+            cos_dec: number_at(sheet, 19),
+            tan_dec: number_at(sheet, 36),
+            sin_lat,
+            cos_lat,
+            pier,
         }
     }
 }

@@ -3,8 +3,7 @@ use mathlib.Core.List.{List, [], ◌∷◌, ◌++◌}
 use Prim.Native.Nat.{ℕ, zero, suc, ◌≤◌, ◌<◌}
 use native.Mathlib.Nat.{not-suc-le-zero, le_of_suc-le-suc, zero-lt-suc}
 use native.Mathlib.Omega.{arith}
-use lib.ListN.{length, get_or, take, drop, set}
-use lib.Seq.{sets}
+use lib.ListN.{length, get_or, take, drop}
 use Rattle.sequence.specs.Sequence.{table}
 use Rattle.order.specs.Order.{All, AllBelow}
 
@@ -31,15 +30,6 @@ module _ (P : ℕ → Type 0) where
   all_drop zero l a = a
   all_drop (suc n) [] a = tt
   all_drop (suc n) (x ∷ l) a = all_drop n l a.1
-
-  all_set : (l : List ℕ) (i x : ℕ) → All P l → P x → All P (set l i x)
-  all_set [] i x a h = tt
-  all_set (y ∷ l) zero x a h = (h, a.1)
-  all_set (y ∷ l) (suc i) x a h = (a.0, all_set l i x a.1 h)
-
-  pub all_sets : (l : List ℕ) (i : ℕ) (vs : List ℕ) → All P l → All P vs → All P (sets l i vs)
-  all_sets l i [] a b = a
-  all_sets l i (v ∷ vs) a b = all_sets (set l i v) (suc i) vs (all_set l i v a b.0) b.1
 
 pub all_le : (m n : ℕ) (l : List ℕ) → m ≤ n → AllBelow m l → AllBelow n l
 all_le m n [] h a = tt

@@ -100,22 +100,22 @@ module _ (σ : List Float) where
       step (lt x y) refl
 
   -- the column taken, and the others
-  abbrev place : List ℕ → ℕ
+  abbrev pub place : List ℕ → ℕ
   place left = best σ left (length left - 1)
 
-  abbrev rest : List ℕ → List ℕ
+  abbrev pub rest : List ℕ → List ℕ
   rest left = take (place left) left ++ drop (place left + 1) left
 
-  place_inside : (left : List ℕ) → 0 < length left → place left < length left
+  pub place_inside : (left : List ℕ) → 0 < length left → place left < length left
   place_inside left h = omega (arith, best-within left (length left - 1))
 
-  length_rest : (left : List ℕ) (n : ℕ) → length left ≡ suc n → length (rest left) ≡ n
+  pub length_rest : (left : List ℕ) (n : ℕ) → length left ≡ suc n → length (rest left) ≡ n
   length_rest left n e =
       let i = place_inside left (omega arith) in
       length-append (take (place left) left) (drop (place left + 1) left)
       ∙ rw (length-take-le (place left) left (omega arith), length-drop (place left + 1) left) (omega arith)
 
-  all_rest : (P : ℕ → Type 0) (left : List ℕ) → All P left → All P (rest left)
+  pub all_rest : (P : ℕ → Type 0) (left : List ℕ) → All P left → All P (rest left)
   all_rest P left a =
       all_append P (take (place left) left) (drop (place left + 1) left) (all_take P (place left) left a) (all_drop P (place left + 1) left a)
 

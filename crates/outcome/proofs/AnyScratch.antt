@@ -5,15 +5,15 @@ use mathlib.Core.List.{List}
 use borrow.Author.Tests.{le-leb}
 use lib.ListN.{length}
 use lib.Ieee.{Float}
+use Rattle.std.specs.Prelude.{⊤, Result, Ok, Err}
+use Rattle.refusal.specs.declared.Refusal.{Refusal}
 use Rattle.linalg.specs.Linalg.{Solved}
 use Rattle.solver.specs.declared.IterOptions.{IterOptions}
 use Rattle.solver.specs.declared.IterReport.{IterReport}
 use Rattle.solver.specs.declared.SigmaBy.{SigmaBy}
 use Rattle.solver.specs.Call.{FitInputs, Buffers, with_scratch, sizes_of}
 use Rattle.design.specs.Design.{Run}
-use Rattle.validate.specs.Questions.{scratch_needed, enough_room, asked}
-use Rattle.validate.specs.declared.Asked.{Asked}
-use Rattle.validate.specs.declared.Asked.TheVariants.{Pass, No}
+use Rattle.validate.specs.Questions.{scratch_needed, enough_room, asked_of}
 use Rattle.outcome.specs.Outcome.{Outcome, SameFit, decided, finished}
 
 -- what is finished is the same whatever the run needs of scratch
@@ -27,15 +27,15 @@ finished-same r by need need' b w set change s res under report =
 module _ (l : FitInputs) (o : IterOptions) (b : Buffers) (w : List Float)
     (long : scratch_needed (length l.coefficients) (length l.dh) ≤ length b.scratch)
     (long' : scratch_needed (length l.coefficients) (length l.dh) ≤ length w) where
-  asked-same : asked l o (sizes_of b) ≡ asked l o (sizes_of (with_scratch w b))
-  unfolding asked enough_room
+  asked-same : asked_of l o (sizes_of b) ≡ asked_of l o (sizes_of (with_scratch w b))
+  unfolding asked_of enough_room
   asked-same = rw (le-leb _ _ long, le-leb _ _ long')
 
   -- a call whose fits x and y agree
   pub decided-same : (x y : Outcome) → SameFit x y
-      → SameFit (decided (asked l o (sizes_of b)) x b) (decided (asked l o (sizes_of (with_scratch w b))) y (with_scratch w b))
-  decided-same x y same = rw (← asked-same) (by (asked l o (sizes_of b)))
+      → SameFit (decided (asked_of l o (sizes_of b)) x b) (decided (asked_of l o (sizes_of (with_scratch w b))) y (with_scratch w b))
+  decided-same x y same = rw (← asked-same) (by (asked_of l o (sizes_of b)))
     where
-      by : (a : Asked) → SameFit (decided a x b) (decided a y (with_scratch w b))
-      by Pass = same
-      by (No k) = record { answer = refl; coefficients = refl; change = refl; sigma = refl; diagnostics = refl }
+      by : (a : Result ⊤ Refusal) → SameFit (decided a x b) (decided a y (with_scratch w b))
+      by (Ok u) = same
+      by (Err why) = record { answer = refl; coefficients = refl; change = refl; sigma = refl; diagnostics = refl }

@@ -2,19 +2,17 @@
 use Prim.Native.Nat.{ℕ, ◌+◌, ◌*◌, ◌≤◌}
 use native.Mathlib.Omega.{arith}
 use mathlib.Core.Path.{◌≡◌, refl, sym, ap, ◌∙◌}
-use mathlib.Core.Bool.{Bool, true, false, false≢true}
 use lib.ListN.{length}
-use Rattle.solver.specs.declared.Fit.{Fit}
-use Rattle.solver.specs.declared.Fit.TheVariants.{Done, Refused}
+use Rattle.std.specs.Prelude.{⊤, Result, Ok, Err}
+use Rattle.refusal.specs.declared.Refusal.{Refusal}
+use Rattle.refusal.specs.Refusal.{number_of}
 use Rattle.solver.specs.declared.FitResult.{FitResult}
 use Rattle.solver.specs.declared.IterOptions.{IterOptions}
 use Rattle.solver.specs.Call.{FitInputs, Buffers, sizes_of}
 use Rattle.design.specs.Design.{Run, RunInputs, run_from, run_of, run_inputs_of}
 use Rattle.design.specs.Counted.{Counted}
 use Rattle.design.proofs.Indices.{up_to-length}
-use Rattle.validate.specs.Questions.{scratch_needed, asked, Ready}
-use Rattle.validate.specs.declared.Asked.{Asked}
-use Rattle.validate.specs.declared.Asked.TheVariants.{Pass, No}
+use Rattle.validate.specs.Questions.{scratch_needed, asked_of, Ready}
 use Rattle.validate.proofs.InOrder.{no_has_number}
 use Rattle.outcome.specs.Outcome.{Outcome, decided}
 use Rattle.outcome.specs.Scratch.{count_of, height_in}
@@ -42,22 +40,15 @@ module _ (l : FitInputs) (r : RunInputs) (need : ℕ) (is : r ≡ run_inputs_of 
 
 -- ---- by the answer r of its questions, where its fit is x
 
-abbrev refused : Fit → Bool
-refused (Done r) = false
-refused (Refused k) = true
-
-abbrev number_of : Fit → ℕ
-number_of (Done r) = 0
-number_of (Refused k) = k
-
 module _ (l : FitInputs) (o : IterOptions) (b : Buffers) (x : Outcome) where
-  pub answered : (r a : Asked) → r ≡ asked l o (sizes_of b) → r ≡ a → decided a x b ≡ decided (asked l o (sizes_of b)) x b
+  pub answered : (r a : Result ⊤ Refusal) → r ≡ asked_of l o (sizes_of b) → r ≡ a → decided a x b ≡ decided (asked_of l o (sizes_of b)) x b
   answered r a q e = ap (λ y. decided y x b) (sym e ∙ q)
 
   -- the number of a refusal is never 0
-  pub refusal_has_number : (done : FitResult) → x.answer ≡ Done done → (k : ℕ) → (decided (asked l o (sizes_of b)) x b).answer ≡ Refused k → k ≡ 0 → ⊥
-  refusal_has_number done e k q z = by (asked l o (sizes_of b)) refl q
+  pub refusal_has_number : (done : FitResult) → x.answer ≡ Ok done → (why : Refusal) → (decided (asked_of l o (sizes_of b)) x b).answer ≡ Err why
+      → number_of why ≡ 0 → ⊥
+  refusal_has_number done e why q z = by (asked_of l o (sizes_of b)) refl q
     where
-      by : (a : Asked) → a ≡ asked l o (sizes_of b) → (decided a x b).answer ≡ Refused k → ⊥
-      by Pass i q = false≢true (ap refused (sym e ∙ q))
-      by (No j) i q = no_has_number l o (sizes_of b) j i (ap number_of q ∙ z)
+      by : (a : Result ⊤ Refusal) → a ≡ asked_of l o (sizes_of b) → (decided a x b).answer ≡ Err why → ⊥
+      by (Ok u) i q = cc
+      by (Err other) i q = let same : other ≡ why = cc in no_has_number l o (sizes_of b) why (rw same at i) z

@@ -3,15 +3,10 @@ use Prim.Native.Nat.{ℕ, ◌+◌, ◌-◌, ◌≤◌}
 use native.Mathlib.Omega.{arith}
 use mathlib.Core.Path.{◌≡◌, sym, ap, ◌∙◌}
 use mathlib.Core.List.{List, ◌++◌}
-use lib.ListN.{length, take, drop, replicate, length-append, length-drop, length-replicate}
+use lib.ListN.{length, take, drop, length-append, length-drop}
 use lib.Seq.{length-take-le, take_at, drop_at, drop-drop}
-use lib.Ieee.{Float}
-use Rattle.float.specs.Float.{#0}
 use Rattle.sequence.specs.Sequence.{part}
 use Rattle.sequence.proofs.Parts.{part-take}
-
-pub front_size : {A : Type 0} (l : List A) (k : ℕ) → k ≤ length l → k ≡ length (take k l)
-front_size l k h = sym (length-take-le k l h)
 
 -- l, whose first k elements came back as ys
 abbrev pub renewed : {A : Type 0} → List A → List A → ℕ → List A
@@ -52,12 +47,3 @@ module _ {A : Type 0} {l ys : List A} {k : ℕ} (r : Renewed l ys k) where
   front_above i h =
       let split : k + (i - k) ≡ i = omega arith in
       rw split at (sym (drop-drop (i - k) k (renewed l ys k)) ∙ ap (drop (i - k)) front_rest ∙ drop-drop (i - k) k l)
-
--- zeros were written into the front, and then F of them
-pub front_zeros : (F : List Float → List Float) (l ys zs : List Float) (k : ℕ) → k ≤ length l → ys ≡ replicate (length (take k l)) #0
-    → zs ≡ F (take k (renewed l ys k)) → renewed (renewed l ys k) zs k ≡ F (replicate k #0) ++ drop k l
-front_zeros F l ys zs k room e q =
-    let n : length (take k l) ≡ k = length-take-le k l room in
-    let z : ys ≡ replicate k #0 = rw n at e in
-    let r : Renewed l ys k = record { room = room; kept = ap length e ∙ length-replicate (length (take k l)) #0 } in
-    rw (q, front_rest r, front_again r, z)

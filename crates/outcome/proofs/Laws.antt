@@ -1,13 +1,13 @@
 -- What the residuals and the last steps of a fit leave. Assumes nothing.
-use Prim.Native.Nat.{ℕ, zero, suc, ◌+◌, ◌-◌, ◌*◌, ◌≤◌}
-use native.Mathlib.Nat.{add-sub_cancel_left}
+use Prim.Native.Nat.{ℕ, ◌+◌, ◌*◌, ◌≤◌}
 use native.Mathlib.Omega.{arith}
 use mathlib.Core.Path.{◌≡◌, refl, ap, ◌∙◌}
 use mathlib.Core.Bool.{Bool, true, false}
-use mathlib.Core.List.{List, [], ◌∷◌, ◌++◌, zip_with}
+use mathlib.Core.List.{List, ◌++◌, zip_with}
 use lib.ListN.{length, take, drop, replicate}
 use lib.Seq.{sets}
 use lib.Ieee.{Float, le}
+use Rattle.std.specs.Prelude.{Ok}
 use Rattle.limits.specs.Limits.{max_terms, max_stars}
 use Rattle.float.specs.Float.{#0}
 use Rattle.sequence.specs.Sequence.{part, Only}
@@ -15,7 +15,6 @@ use Rattle.sequence.proofs.Parts.{length_part, part_sets_same, length_zip_part}
 use Rattle.linalg.specs.declared.SolveOutcome.{SolveOutcome}
 use Rattle.linalg.specs.Linalg.{Placed, leverage_of, in_order, Solved, answered, solved, solved_damped}
 use Rattle.linalg.proofs.Laws.{in_order_placed}
-use Rattle.solver.specs.declared.Fit.TheVariants.{Done}
 use Rattle.solver.specs.declared.FitResult.{FitResult}
 use Rattle.solver.specs.declared.IterReport.{IterReport}
 use Rattle.solver.specs.declared.SigmaBy.{SigmaBy}
@@ -27,45 +26,19 @@ use Rattle.stats.specs.declared.Sky.{Sky}
 use Rattle.stats.specs.Stats.{degrees, sky_from, divisor, variance, sigma_at}
 use Rattle.outcome.specs.Outcome.{sigma_of, diagnostic_from, diagnostic_of, diagnostic_numbers, answer_of, outcome, finished}
 use Rattle.outcome.specs.Scratch.{count_of, height_in, residuals_in, columns_in, solved_in, Fits}
-use Rattle.outcome.proofs.Front.{front_zeros}
 use Rattle.outcome.proofs.Runs.{fits_free}
 
--- ---- residuals: a product p at x has been taken from what lies at y
+-- ---- residuals: a product p at 2·n has been taken from what lies at 4·n
 
-pub taken_from : (f : Float → Float → Float) (w w₁ w₂ p : List Float) (x y n : ℕ) → x + n ≤ y → y + n ≤ length w → part w₁ x n ≡ p → Only 0 y w w₁
-    → w₂ ≡ sets w₁ x (zip_with f (part w₁ y n) (part w₁ x n)) → part w₂ x n ≡ zip_with f (part w y n) p
-taken_from f w w₁ w₂ p x y n low room is only e =
-    let long : length w₁ ≡ length w = only.long in
-    let old : part w₁ y n ≡ part w y n = only.above y n (omega arith) in
-    let z = zip_with f (part w₁ y n) (part w₁ x n) in
-    let count : length z ≡ n = length_zip_part f w₁ y x n (omega arith) (omega arith) in
-    ap (λ (v : List Float). part v x n) e ∙ part_sets_same w₁ x n z count (omega arith) ∙ rw (old, is)
-
--- ---- the last steps: the parts of w that are lent
-
-pub order_long : (k : ℕ) (l : List ℕ) → length (take k l) ≡ k → k ≤ length l
-order_long zero l e = omega arith
-order_long (suc k) [] e = absurd (omega arith)
-order_long (suc k) (x ∷ l) e = let h : k ≤ length l = order_long k l (omega arith) in omega arith
-
-lent : (w : List Float) (x n : ℕ) → take (x + n - x) (drop x w) ≡ part w x n
-lent w x n = ap (λ (k : ℕ). take k (drop x w)) (add-sub_cancel_left x n)
-
-pub placed_lent : (w : List Float) (c k h : ℕ) (o : List ℕ) → Placed h (part w c k) o → Placed h (take (c + k - c) (drop c w)) o
-placed_lent w c k h o p = rw (lent w c k) p
-
-pub sigma_given : (free : List ℕ) (w cov was ys zs : List Float) (x n m d dof : ℕ) (s2 : Float) → m ≤ length was
-    → d ≡ dof → s2 ≡ variance (take (x + n - x) (drop x w)) d → ys ≡ replicate (length (take m was)) #0
-    → zs ≡ scattered free (sigma_at s2 cov) (take m (ys ++ drop m was))
-    → zs ++ drop m (ys ++ drop m was) ≡ scattered free (sigma_at (variance (part w x n) dof) cov) (replicate m #0) ++ drop m was
-sigma_given free w cov was ys zs x n m d dof s2 room i e z q =
-    let v : s2 ≡ variance (part w x n) dof = rw (lent w x n, i) at e in
-    rw v at (front_zeros (scattered free (sigma_at s2 cov)) was ys zs m room z q)
-
-pub diagnostics_given : (w was is inv : List Float) (order : List ℕ) (x n c k h i d dof : ℕ) → d ≡ dof
-    → is ≡ diagnostic_numbers i (diagnostic_from d (take (x + n - x) (drop x w)) (leverage_of h (take (c + k - c) (drop c w)) order inv)) ++ drop (3 * i) was
-    → is ≡ diagnostic_numbers i (diagnostic_from dof (part w x n) (leverage_of h (part w c k) order inv)) ++ drop (3 * i) was
-diagnostics_given w was is inv order x n c k h i d dof q e = rw (lent w x n, lent w c k, q) at e
+pub free_taken : (f : Float → Float → Float) (n : ℕ) (v v₁ v₂ p : List Float) → length v ≡ 8 * n → part v₁ (2 * n) (2 * n) ≡ p → Only 0 (4 * n) v v₁
+    → v₂ ≡ sets v₁ (2 * n) (zip_with f (part v₁ (4 * n) (2 * n)) (part v₁ (2 * n) (2 * n)))
+    → part v₂ (2 * n) (2 * n) ≡ zip_with f (part v (4 * n) (2 * n)) p
+free_taken f n v v₁ v₂ p long is only e =
+    let kept : length v₁ ≡ length v = only.long in
+    let old : part v₁ (4 * n) (2 * n) ≡ part v (4 * n) (2 * n) = only.above (4 * n) (2 * n) (omega arith) in
+    let z = zip_with f (part v₁ (4 * n) (2 * n)) (part v₁ (2 * n) (2 * n)) in
+    let count : length z ≡ 2 * n = length_zip_part f v₁ (4 * n) (2 * n) (2 * n) (omega arith) (omega arith) in
+    ap (λ (u : List Float). part u (2 * n) (2 * n)) e ∙ part_sets_same v₁ (2 * n) (2 * n) z count (omega arith) ∙ rw (old, is)
 
 -- ---- the order of the columns after a solve
 
@@ -114,7 +87,7 @@ pub finishes : (l : RunInputs) (by : SigmaBy) (need : ℕ) (b : Buffers) (w set 
     (leverage_of (height_in l) (columns_in l w) (take (length l.free) o.order) o.inv_s))
     ++ drop (3 * count_of l) b.diagnostics
     → scratch' ≡ replicate need #0 ++ drop need b.scratch
-    → outcome (Done r) (buffers out' change' sigma' diagnostics' scratch') ≡ finished (run_from l) by need b set change s res under report
+    → outcome (Ok r) (buffers out' change' sigma' diagnostics' scratch') ≡ finished (run_from l) by need b set change s res under report
 unfolding finished sigma_of diagnostic_of
 finishes l by need b w set change res under out' change' sigma' diagnostics' scratch' o s sky report r es er ek eo ec ea ei ed ez =
     rw (← es, ← er, ← ek, ← count_is l, ← eo, ← ec, ← ea, ← ei, ← ed, ← ez)

@@ -1,7 +1,9 @@
 pub mod Front
+pub mod Over
 pub mod Laws
 pub mod Runs
 pub mod Call
+pub mod Numbered
 pub mod Diagnostics
 pub mod AnyScratch
 pub mod AnyChoice

@@ -6,27 +6,25 @@ use mathlib.Core.List.{List}
 use lib.Ieee.{Float}
 use Rattle.jacobi.specs.Jacobi.{Factorised, factorised, SweepsInLimit}
 use Rattle.jacobi.proofs.Counts.{in_limit, one_column}
-use Rattle.solver.specs.declared.Fit.{Fit}
-use Rattle.solver.specs.declared.Fit.TheVariants.{Done, Refused}
+use Rattle.std.specs.Prelude.{⊤, Result, Ok, Err}
+use Rattle.refusal.specs.declared.Refusal.{Refusal}
 use Rattle.solver.specs.declared.FitResult.{FitResult}
 use Rattle.solver.specs.Call.{Buffers}
-use Rattle.validate.specs.declared.Asked.{Asked}
-use Rattle.validate.specs.declared.Asked.TheVariants.{Pass, No}
 use Rattle.outcome.specs.Outcome.{Outcome, Tells, decided}
 
 -- an answer tells the sweeps of f
-abbrev TellsOf : Factorised → Fit → Type 0
-TellsOf f (Done x) = Tells f x
-TellsOf f (Refused k) = Unit {0}
+abbrev TellsOf : Factorised → Result FitResult Refusal → Type 0
+TellsOf f (Ok x) = Tells f x
+TellsOf f (Err why) = Unit {0}
 
 -- of a call by the answer of its questions, whose fit y tells them
-pub tells : (a : Asked) (y : Outcome) (b : Buffers) (done x : FitResult) (f : Factorised) → y.answer ≡ Done done → Tells f done
-    → (decided a y b).answer ≡ Done x → Tells f x
+pub tells : (a : Result ⊤ Refusal) (y : Outcome) (b : Buffers) (done x : FitResult) (f : Factorised) → y.answer ≡ Ok done → Tells f done
+    → (decided a y b).answer ≡ Ok x → Tells f x
 tells a y b done x f is told e = rw e at (by a)
   where
-    by : (q : Asked) → TellsOf f (decided q y b).answer
-    by Pass = rw is told
-    by (No k) = tt
+    by : (q : Result ⊤ Refusal) → TellsOf f (decided q y b).answer
+    by (Ok u) = rw is told
+    by (Err why) = tt
 
 module _ (h rows m : ℕ) (w : List Float) (x : FitResult) (told : Tells (factorised h rows m w) x) where
   pub limited : SweepsInLimit x.sweeps x.settled

@@ -1,12 +1,11 @@
 -- What both fits are made of after their last solve: sigma, diagnostics, the answer, and what each buffer holds at the end. Definitions only.
-use Rattle.std.specs.Prelude.{ℕ, ◌+◌, ◌*◌, ◌≡◌, List, [], ◌∷◌, ◌++◌, length, drop, replicate, Float}
+use Rattle.std.specs.Prelude.{ℕ, ◌+◌, ◌*◌, ◌≡◌, ⊤, Result, Ok, Err, List, [], ◌∷◌, ◌++◌, length, drop, replicate, Float}
 use Rattle.float.specs.Float.{#0}
 use Rattle.sequence.specs.Sequence.{at, concat_to}
 use Rattle.jacobi.specs.Jacobi.{Factorised}
 use Rattle.linalg.specs.declared.SolveOutcome.{SolveOutcome}
 use Rattle.linalg.specs.Linalg.{Solved, factorised_from, leverage_after}
-use Rattle.solver.specs.declared.Fit.{Fit}
-use Rattle.solver.specs.declared.Fit.TheVariants.{Done, Refused}
+use Rattle.refusal.specs.declared.Refusal.{Refusal}
 use Rattle.solver.specs.declared.FitResult.{FitResult}
 use Rattle.solver.specs.declared.IterReport.{IterReport}
 use Rattle.solver.specs.declared.ObsDiagnostic.{ObsDiagnostic}
@@ -14,8 +13,6 @@ use Rattle.solver.specs.declared.Settings.{Settings}
 use Rattle.solver.specs.declared.SigmaBy.{SigmaBy}
 use Rattle.solver.specs.Call.{Buffers, buffers}
 use Rattle.design.specs.Design.{Run, rows_of, height_of, scattered, free_columns}
-use Rattle.validate.specs.declared.Asked.{Asked}
-use Rattle.validate.specs.declared.Asked.TheVariants.{Pass, No}
 use Rattle.stats.specs.declared.Sky.{Sky}
 use Rattle.stats.specs.Stats.{sqrt, degrees, sky_from, divisor, variance, sigma_at, diagnostic}
 
@@ -63,11 +60,11 @@ pub record Tells (f : Factorised) (a : FitResult) : Type 0 where
 -- ---- the answer and what each buffer holds at the end
 
 pub record Outcome : Type 0 where
-  pub answer : Fit
+  pub answer : Result FitResult Refusal
   pub left : Buffers
 
-abbrev pub outcome : Fit → Buffers → Outcome
-outcome f b = record { answer = f; left = b }
+abbrev pub outcome : Result FitResult Refusal → Buffers → Outcome
+outcome r b = record { answer = r; left = b }
 
 -- two that agree in all but what scratch holds
 pub record SameFit (x y : Outcome) : Type 0 where
@@ -86,9 +83,9 @@ pub record SameButSigma (x y : Outcome) : Type 0 where
   pub scratch : x.left.scratch ≡ y.left.scratch
 
 -- a call by the answer of its questions: the fit, or the refusal with every buffer as it was
-abbrev pub decided : Asked → Outcome → Buffers → Outcome
-decided Pass x b = x
-decided (No k) x b = outcome (Refused k) b
+abbrev pub decided : Result ⊤ Refusal → Outcome → Buffers → Outcome
+decided (Ok u) x b = x
+decided (Err why) x b = outcome (Err why) b
 
 -- an accepted fit of a run that needs so much of scratch: what sigma is by, the set, its change, the last solve and the residuals res that it left, the
 -- residuals under the set, and how it was come to. The run's n is the page's in every call
@@ -98,7 +95,7 @@ finished r by need b set change s res under report =
     let n = length r.stars in
     let free = length r.free in
     outcome
-    (Done (answer_of free r.settings s.outcome (sky_from r.stars free under) report))
+    (Ok (answer_of free r.settings s.outcome (sky_from r.stars free under) report))
     (buffers
     (set ++ drop m b.coefficients)
     (change ++ drop m b.change)

@@ -3,81 +3,92 @@
 #![tactic(auto)]
 
 ghost use Rattle.std.specs.Prelude.{◌≡◌, ◌+◌, ◌*◌, ◌≤◌, length, take, drop, replicate};
-ghost use mathlib.Core.List.{List, ◌++◌, zip_with};
+ghost use mathlib.Core.List.{◌++◌, zip_with};
 ghost use Rattle.std.specs.Float.{binary64};
 ghost use Rattle.std.specs.Float.Ieee.{sub};
 ghost use Rattle.limits.specs.Limits.{max_terms, max_stars};
 ghost use Rattle.float.specs.Float.{#0};
 ghost use Rattle.sequence.specs.Sequence.{at, part};
 ghost use Rattle.linalg.specs.Linalg.{Placed, leverage_of};
-ghost use Rattle.design.specs.Design.{Star, sights_at, product, extracted, weighed_at, scattered};
-ghost use Rattle.design.specs.Counted.{Below, Seen, Named};
+ghost use Rattle.design.specs.Design.{product, extracted, weighed_at, scattered};
+ghost use Rattle.design.specs.Counted.{Below, Named};
+ghost use Rattle.design.specs.Sights.{sights_in};
 ghost use Rattle.stats.specs.Stats.{degrees, divisor, variance, sigma_at};
 ghost use Rattle.outcome.specs.Outcome.{diagnostic_from, diagnostic_numbers, answer_of};
 
+use design::run::SightInput;
 use limits::MAX_TERMS;
 use linalg::SolveOutcome;
 use solver::{FitResult, IterReport, RankInfo, Settings, SigmaBy};
-use stats::Sky;
+use stats::{Row, Sky};
 
 // At 2·n, what lies at 4·n less the product of the free sky columns, weighed, with x: the free terms' residuals.
+// names and free come beside the sights, as it asks less than a run.
 pub fn free_residuals(
+    sights: &SightInput,
     names: &[u8],
     free: &[u16],
-    pier: &[u8],
-    sheets: &[f64],
-    used: &[u16],
-    s: Settings,
     k: f64,
     x: &[f64; MAX_TERMS],
     v: &mut [f64],
 )
-    ghost ss: { List Star }
-    requires used_value { sights_at pier.now sheets.now used.now ≡ ss }
-    requires seen { Seen pier.now sheets.now used.now × (length free.now ≤ max_terms) × Named names.now free.now
-        × (length v.old ≡ 8 * length used.now) }
-    ensures { part v.new (2 * length used.now) (2 * length used.now)
-        ≡ zip_with (sub binary64) (part v.old (4 * length used.now) (2 * length used.now))
-        (product (2 * length used.now) (length free.now) (at x.now)
-        (extracted free.now (weighed_at k (part v.old (6 * length used.now) (2 * length used.now)) s ss
-        names.now))) }
+    requires { (length free.now ≤ max_terms) × Named names.now free.now × (length v.old ≡ 8 * length sights.now.used) }
+    ensures { part v.new (2 * length sights.now.used) (2 * length sights.now.used)
+        ≡ zip_with (sub binary64) (part v.old (4 * length sights.now.used) (2 * length sights.now.used))
+        (product (2 * length sights.now.used) (length free.now) (at x.now)
+        (extracted free.now (weighed_at k (part v.old (6 * length sights.now.used) (2 * length sights.now.used)) sights.now.settings
+        (sights_in sights.now) names.now))) }
 {
-    let n = used.len();
+    sights.free_product(names, free, k, x, v);
+    let n = sights.used.len();
     let rows = 2 * n;
-    design::free_product(names, free, pier, sheets, used, s, k, x, v);
     design::subtract_from(v, rows, 4 * n, rows);
 }
 
-// Three numbers for each of n stars, from their residuals r, the divisor of their squares and the solved columns u, of which those in o count where inv_s
-// isn't 0.
+// Three numbers for each of n stars, from the residuals at 2·n and the k solved columns at 8·n, where dof divides the residuals' squares.
 fn compute_diagnostics(
-    u: &[f64],
-    h: usize,
-    o: &[usize],
-    inv_s: &[f64; MAX_TERMS],
-    r: &[f64],
+    solved: &SolveOutcome,
+    k: usize,
     n: usize,
+    m: usize,
     dof: usize,
+    w: &[f64],
     out: &mut [f64],
 )
-    requires { Placed h u.now o.now × (2 * n ≤ h) × (n ≤ max_stars) × (length r.now ≡ 2 * n) × (dof ≤ 2 * max_stars + 1) × (3 * n ≤ length out.old) }
+    requires sizes { (n ≤ max_stars) × (m ≤ max_terms) × (k ≤ m) × (8 * n + k * (2 * n + 2 * m) ≤ length w.now)
+        × (dof ≤ 2 * max_stars + 1) × (3 * n ≤ length out.old) }
+    requires columns { Placed (2 * n + 2 * m) (part w.now (8 * n) (k * (2 * n + 2 * m))) (take k solved.now.order)
+        × (length (take k solved.now.order) ≡ k) }
     ensures { out.new
-        ≡ diagnostic_numbers n (diagnostic_from dof r.now (leverage_of h u.now o.now inv_s.now))
+        ≡ diagnostic_numbers n (diagnostic_from dof (part w.now (2 * n) (2 * n))
+        (leverage_of (2 * n + 2 * m) (part w.now (8 * n) (k * (2 * n + 2 * m))) (take k solved.now.order) solved.now.inv_s))
         ++ drop (3 * n) out.old }
 {
+    let rows = 2 * n;
+    let h = rows + 2 * m;
+    let r = &w[rows..rows + rows];
+    let u = &w[8 * n..8 * n + k * h];
+    let order = &solved.order[..k];
     let s = sqrt::sqrt(stats::variance(r, dof));
-    for i in 0..n {
-        let l_ha = linalg::leverage(u, h, o, 2 * i, inv_s);
-        let l_dec = linalg::leverage(u, h, o, 2 * i + 1, inv_s);
-        let d = stats::diagnostic(s, r[2 * i], r[2 * i + 1], l_ha, l_dec);
-        out[3 * i] = d.residual_sky;
-        out[3 * i + 1] = d.leverage;
-        out[3 * i + 2] = d.studentized;
+    // out is written by its places: of what its chunks lend, a proof knows the length alone.
+    for (i, star) in r.chunks_exact(2).enumerate() {
+        let ha = Row {
+            residual: star[0],
+            leverage: linalg::leverage(u, h, order, 2 * i, &solved.inv_s),
+        };
+        let dec = Row {
+            residual: star[1],
+            leverage: linalg::leverage(u, h, order, 2 * i + 1, &solved.inv_s),
+        };
+        let d = stats::diagnostic(s, ha, dec);
+        let numbers = [d.residual_sky, d.leverage, d.studentized];
+        out[3 * i..3 * i + 3].copy_from_slice(&numbers);
     }
 }
 
 // The end of a fit of n stars and m terms, from the free terms' residuals at 2·n and the solved columns at 8·n: sigma, the diagnostics, the answer,
-// and zeros in w.
+// and zeros in w. It takes free, n and m, as it asks less than a run, and the buffers one by one: a struct that lends them would owe in each
+// contract that its references stay the same.
 pub fn finish(
     free: &[u16],
     n: usize,
@@ -107,28 +118,13 @@ pub fn finish(
     ensures cleared { w.new ≡ replicate (length w.old) #0 }
 {
     let rows = 2 * n;
-    let h = rows + 2 * m;
-    let c = 8 * n;
-    let k = free.len() * h;
-    let order = solved.order;
-    let inv_s = solved.inv_s;
-    let cov_diag = solved.cov_diag;
     let dof = stats::divisor(sigma_by, n, solved.rank);
     let s2 = stats::variance(&w[rows..rows + rows], dof);
-    sequence::fill(&mut sigma[..m], 0.0);
-    stats::compute_sigma(free, s2, &cov_diag, &mut sigma[..m]);
+    sigma[..m].fill(0.0);
+    stats::compute_sigma(free, s2, &solved.cov_diag, &mut sigma[..m]);
     let row_dof = stats::degrees(rows, solved.rank);
-    compute_diagnostics(
-        &w[c..c + k],
-        h,
-        &order[..free.len()],
-        &inv_s,
-        &w[rows..rows + rows],
-        n,
-        row_dof,
-        diagnostics,
-    );
-    sequence::fill(w, 0.0);
+    compute_diagnostics(&solved, free.len(), n, m, row_dof, w, diagnostics);
+    w.fill(0.0);
     FitResult {
         sky_rms: sky.rms,
         popn_sd: sky.popn_sd,

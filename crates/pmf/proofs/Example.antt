@@ -11,7 +11,7 @@ use Rattle.observation.specs.Sheet.{point_of}
 use Rattle.harmonic.specs.Table.{ascii}
 use Rattle.harmonic.specs.Harmonic.{components, parse_harmonic}
 use Rattle.terms.specs.Names.{padded, name_of, well_formed, digits_from, unsigned, read_harmonic, by_known, read_term}
-use Rattle.terms.specs.Slots.{first_of}
+use Rattle.terms.specs.Slots.{all_ok}
 use Rattle.terms.specs.Jacobian.{jacobian_of}
 use Rattle.jacobi.specs.Jacobi.{zeta_of, tan_of, cos_of, turn, pair, row, sweep, sweeps}
 use Rattle.column.specs.Column.{norm, norms, scale_of, scaled_column, unit_column, columns, diagonal, diagonals, extended}
@@ -19,7 +19,7 @@ use Rattle.order.specs.Order.{best, order}
 use Rattle.linalg.specs.Linalg.{decomposed, threshold, inverse, inverses, rank_to, projected, x_scaled, solution, scaled_variance, covariance, leverage_of, answered, solved}
 use Rattle.design.specs.Design as Design
 use Rattle.design.specs.Design.{kept, collect_indices, pairs, column, sky_column, differences, sky_rows, sky_differences, subtract_all, product, scattered, stacked}
-use Rattle.validate.specs.Questions.{in_limits, counts, scratch_needed, enough_room, finite_settings, finite_input, finite_options, codes_known, asked}
+use Rattle.validate.specs.Questions.{in_limits, counts, scratch_needed, enough_room, finite_settings, finite_input, finite_options, codes_known, asked_of}
 use Rattle.stats.specs.Stats.{sum_sq_sky, sky_from, variance, clamped, studentized_row, diagnostic}
 use Rattle.single_step.specs.SingleStep as Step
 use Rattle.outcome.specs.Outcome as Out
@@ -67,12 +67,12 @@ file =
 
 pub example : Pmf.listed file ≡ ascii "fit 1 1 1 yes 1 yes" ++ Text.newline ++ ascii "ID 4024000000000000 0000000000000000 pier" ++ Text.newline ++ ascii "sky 0000000000000000 0000000000000000" ++ Text.newline
 unfolding name_of well_formed digits_from unsigned components parse_harmonic read_harmonic by_known read_term jacobian_of point_of is_finite abs neg add sub mul div lt le
-    eq of_bits of_int Root.sqrt table filled each sum_to sum_but dot zip_with asked in_limits counts scratch_needed enough_room finite_input finite_options codes_known first_of
+    eq of_bits of_int Root.sqrt table filled each sum_to sum_but dot zip_with asked_of in_limits counts scratch_needed enough_room finite_input finite_options codes_known all_ok
     Step.step Step.to_fit Step.change Step.new_coefficients Step.free_residuals Out.sigma_of Out.diagnostic_of Design.rows pairs column sky_column
     differences sky_differences subtract_all product stacked sum_sq_sky variance clamped studentized_row diagnostic solved answered decomposed norms norm
     scale_of scaled_column unit_column columns diagonal diagonals extended inverses inverse rank_to projected x_scaled solution scaled_variance covariance leverage_of
     threshold order best sweeps sweep row pair turn zeta_of tan_of cos_of to_bits Text.digit Text.last_digits Text.decimal Text.hexadecimal Text.bits_of concat_to
     Listing.counts_line Listing.floats Listing.term_line Listing.term_lines Listing.sky_line Listing.fit_text Listing.refusal_text File.double File.input_of
-    File.options_of Pmf.file_no Pmf.room Pmf.fit_of Pmf.outcome_of Pmf.listed Out.finished kept collect_indices sky_rows scattered finite_settings sky_from
+    File.options_of Pmf.header_of Pmf.room Pmf.fit_of Pmf.outcome_of Pmf.listed Out.finished kept collect_indices sky_rows scattered finite_settings sky_from
     Step.fitted_run Step.actual_residuals
 example = refl

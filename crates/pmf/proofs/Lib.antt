@@ -1,5 +1,5 @@
 pub mod Laws
-pub mod Header
+pub mod Formed
 pub mod Listing
 pub mod Long
 pub mod Theorems

@@ -6,7 +6,7 @@ use mathlib.Core.Bool.{Bool, true, false, cond}
 use mathlib.Core.List.{List, []}
 use lib.Dec.{leb}
 use lib.ListN.{length, length-append}
-use Rattle.listing.specs.Listing.{listing_room}
+use Rattle.listing.specs.Text.{listing_room}
 use Rattle.pmf.specs.Pmf.{listed, written, listed_in}
 
 pub count_within : (s d : List ℕ) → (listed_in s d).count ≤ length (listed_in s d).buffer

@@ -1,5 +1,5 @@
 -- Where the fields of a file lie, and what they hold (docs/SCOPE.md 11.1, docs/PMF.md). Definitions only.
-use Rattle.std.specs.Prelude.{ℕ, ◌+◌, ◌*◌, ◌/◌, ◌%◌, ◌≡◌, false, cond, List, ltb, eqb, get_or, Float}
+use Rattle.std.specs.Prelude.{ℕ, ◌+◌, ◌*◌, ◌/◌, ◌%◌, false, cond, List, ltb, eqb, get_or, Float}
 use Rattle.std.specs.Float.{inf, binary64}
 use Rattle.std.specs.Float.Ieee.{of_bits}
 use Rattle.limits.specs.Limits.{slot_bytes, sheet_numbers}
@@ -128,11 +128,3 @@ options_of s =
       robust = eqb (mode_of s) 3;
       huber_k = double s (setting_place 7);
     }
-
--- what the numbers of a file are, once they are read
-pub record Decoded (s : List ℕ) (coefficients dh dd : List Float) (pier : List ℕ) (sheets : List Float) : Type 0 where
-  pub coefficients_are : coefficients ≡ coefficients_of s (term_count s)
-  pub dh_are : dh ≡ differences_of s (star_count s) (dh_place (term_count s))
-  pub dd_are : dd ≡ differences_of s (star_count s) (dd_place (term_count s))
-  pub pier_are : pier ≡ piers_of s (term_count s) (star_count s)
-  pub sheets_are : sheets ≡ sheets_of s (term_count s) (star_count s)

@@ -1,42 +1,49 @@
 -- The file program from bytes to listing (docs/SCOPE.md 11.2 and 11.3). Definitions only.
-use Rattle.std.specs.Prelude.{ℕ, ◌*◌, ◌≤◌, ◌≡◌, Bool, ◌&&◌, ◌||◌, cond, List, [], ◌∷◌, ◌++◌, leb, eqb, length, drop, replicate}
+use Rattle.std.specs.Prelude.{ℕ, ◌*◌, ◌≤◌, ◌≡◌, ◌&&◌, cond, List, [], ◌∷◌, ◌++◌, leb, eqb, length, drop, replicate, Result, Ok, Err}
 use Rattle.float.specs.Float.{#0}
+use Rattle.refusal.specs.declared.Refusal.{Refusal}
+use Rattle.refusal.specs.declared.Refusal.TheVariants.{Limits, NotAFile}
+use Rattle.refusal.specs.Refusal.{number_of}
+use Rattle.refusal.specs.Questions.{ask, asked, and_then}
 use Rattle.harmonic.specs.Table.{ascii}
 use Rattle.terms.specs.Names.{same}
-use Rattle.terms.specs.Questions.{ask, first_no}
-use Rattle.solver.specs.declared.Fit.{Fit}
-use Rattle.solver.specs.declared.Fit.TheVariants.{Done, Refused}
+use Rattle.solver.specs.declared.FitResult.{FitResult}
 use Rattle.solver.specs.declared.IterOptions.{IterOptions}
 use Rattle.solver.specs.declared.SigmaBy.TheVariants.{Stars}
 use Rattle.solver.specs.Call.{FitInputs, Buffers, buffers, sizes_of}
-use Rattle.validate.specs.Questions.{scratch_needed, asked}
+use Rattle.validate.specs.Questions.{scratch_needed, asked_of}
 use Rattle.outcome.specs.Outcome.{Outcome, decided}
 use Rattle.single_step.specs.SingleStep.{fitted as single_step_case}
 use Rattle.iterated.specs.Iterated.{fitted as iterated}
-use Rattle.listing.specs.Listing.{fit_text, refusal_text, listing_room}
+use Rattle.listing.specs.Listing.{fit_text, refusal_text}
+use Rattle.listing.specs.Text.{listing_room}
+use Rattle.pmf.specs.declared.Header.{Header}
+use Rattle.pmf.specs.declared.Mode.{Mode}
+use Rattle.pmf.specs.declared.Mode.TheVariants.{SingleStep, Iterated, Robust}
 use Rattle.pmf.specs.File.{file_terms, file_stars, mark_of, version_of, term_count, mode_of, star_count, file_size, input_of, options_of}
 
 -- ---- is the file well formed?
 
-abbrev pub mode_known : ℕ → Bool
-mode_known k = eqb k 0 || eqb k 1 || eqb k 3
+-- the mode of a code: 0, 1 and 3 have one
+abbrev pub mode_from : ℕ → Result Mode Refusal
+mode_from k = cond (eqb k 0) (Ok SingleStep) (cond (eqb k 1) (Ok Iterated) (cond (eqb k 3) (Ok Robust) (Err NotAFile)))
 
--- the number of the first no, or 0
-unfoldable pub file_no : List ℕ → ℕ
-file_no s =
+abbrev pub header : Mode → ℕ → ℕ → Header
+header mode m n = record { mode = mode; terms = m; stars = n }
+
+-- the header, or the refusal of the first no
+unfoldable pub header_of : List ℕ → Result Header Refusal
+header_of s =
     let m = term_count s in
     let n = star_count s in
-    first_no (λ k. k) 0
-    (ask (leb 9 (length s)) 15
-    ∷ ask (same (mark_of s) (ascii "PMF")) 15
-    ∷ ask (eqb (version_of s) 1) 15
-    ∷ ask (mode_known (mode_of s)) 15
-    ∷ ask (leb m file_terms && leb n file_stars) 1
-    ∷ ask (eqb (length s) (file_size m n)) 15
-    ∷ [])
+    asked (ask (leb 9 (length s)) NotAFile ∷ ask (same (mark_of s) (ascii "PMF")) NotAFile ∷ ask (eqb (version_of s) 1) NotAFile ∷ [])
+    (and_then (mode_from (mode_of s)) (λ mode.
+    asked (ask (leb m file_terms && leb n file_stars) Limits ∷ ask (eqb (length s) (file_size m n)) NotAFile ∷ []) (Ok (header mode m n))))
 
--- what is known of a file where there is none
-pub record WellFormed (s : List ℕ) : Type 0 where
+-- what is known of a file whose header is read
+pub record WellFormed (s : List ℕ) (h : Header) : Type 0 where
+  pub terms_are : h.terms ≡ term_count s
+  pub stars_are : h.stars ≡ star_count s
   pub terms : term_count s ≤ file_terms
   pub stars : star_count s ≤ file_stars
   pub size : length s ≡ file_size (term_count s) (star_count s)
@@ -49,29 +56,33 @@ room =
     let terms = replicate file_terms #0 in
     buffers terms terms terms (replicate (3 * file_stars) #0) (replicate (scratch_needed file_terms file_stars) #0)
 
--- the fit of a mode: 0 is the single step, 1 and 3 are the iterated fit; sigma is by stars
-unfoldable pub fit_of : ℕ → FitInputs → IterOptions → Buffers → Outcome
-fit_of mode l o b = cond (eqb mode 0) (single_step_case l Stars b) (iterated l Stars o b)
+-- the fit of a mode; sigma is by stars
+unfoldable pub fit_of : Mode → FitInputs → IterOptions → Buffers → Outcome
+fit_of SingleStep l o b = single_step_case l Stars b
+fit_of Iterated l o b = iterated l Stars o b
+fit_of Robust l o b = iterated l Stars o b
 
 -- the questions are put to every field in every mode, then the fit is made
-unfoldable pub outcome_of : ℕ → FitInputs → IterOptions → Outcome
-outcome_of mode l o = decided (asked l o (sizes_of room)) (fit_of mode l o room) room
+unfoldable pub outcome_of : Mode → FitInputs → IterOptions → Outcome
+outcome_of mode l o = decided (asked_of l o (sizes_of room)) (fit_of mode l o room) room
 
 -- ---- the listing
 
-abbrev pub answer_text : FitInputs → Buffers → Fit → List ℕ
-answer_text l b (Done r) = fit_text l.names (length l.coefficients) b.coefficients b.sigma r
-answer_text l b (Refused k) = refusal_text k
+abbrev pub answer_text : FitInputs → Buffers → Result FitResult Refusal → List ℕ
+answer_text l b (Ok r) = fit_text l.names (length l.coefficients) b.coefficients b.sigma r
+answer_text l b (Err why) = refusal_text (number_of why)
 
 abbrev pub outcome_text : FitInputs → Outcome → List ℕ
 outcome_text l o = answer_text l o.left o.answer
 
+-- of a file, by its header
+abbrev pub header_text : List ℕ → Result Header Refusal → List ℕ
+header_text s (Ok h) = outcome_text (input_of s) (outcome_of h.mode (input_of s) (options_of s))
+header_text s (Err why) = refusal_text (number_of why)
+
 -- what the program prints of a file
 unfoldable pub listed : List ℕ → List ℕ
-listed s =
-    let no = file_no s in
-    let text = outcome_text (input_of s) (outcome_of (mode_of s) (input_of s) (options_of s)) in
-    cond (eqb no 0) text (refusal_text no)
+listed s = header_text s (header_of s)
 
 -- ---- the call
 

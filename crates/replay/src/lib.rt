@@ -3,102 +3,116 @@
 
 ghost use Rattle.std.specs.Prelude.{◌≡◌, ◌≤◌, length};
 
+use std::io;
 use std::io::{Read, Write};
-use std::rt::{Stdin, Stdout};
 
 // Stands behind the last record. No record begins with it.
 const MARK: u8 = 255;
 
-// Fills buf from standard input; false where the input ends before, or a read fails.
-pub fn next(input: Stdin, buf: &mut [u8]) -> bool {
-    let mut input = input;
-    input.read_exact(buf).is_ok()
-}
-
-// One byte of standard input; 0 where it has ended.
-pub fn byte(input: Stdin) -> u8 {
-    let mut b = [0u8; 1];
-    next(input, &mut b);
-    b[0]
-}
-
-// What standard input goes on with: where `more`, a record whose first byte is `first`; else its end, which is `whole` where the mark
-// stands there and nothing behind it.
+// What the input goes on with: a record by its first byte, its end, or what the oracle doesn't write.
 #[derive(Clone, Copy)]
-pub struct Ahead {
-    pub more: bool,
-    pub first: u8,
-    pub whole: bool,
+pub enum Ahead {
+    Record(u8),
+    End,
+    Cut,
 }
 
-pub fn head(input: Stdin) -> Ahead {
-    let mut b = [0u8; 1];
-    let given = next(input, &mut b);
-    let first = b[0];
-    let more = given && first != MARK;
-    let mut behind = [0u8; 1];
-    let whole = given && !more && !next(input, &mut behind);
-    Ahead { more, first, whole }
-}
-
-// The differences with the end of the input counted as one, unless it is whole.
-pub fn ended(different: u64, end: Ahead) -> u64 {
-    if end.whole {
-        different
-    } else {
-        more(different)
+// What comes next. Each program has its own loop over records: one for all would take a closure that changes what it captures, and of such a call
+// a proof knows too little. Each of these loops has a bound, since every function returns.
+pub fn head(input: &mut impl Read) -> Ahead {
+    let mut first = [0; 1];
+    if input.read_exact(&mut first).is_err() {
+        return Ahead::Cut;
+    }
+    if first[0] != MARK {
+        return Ahead::Record(first[0]);
+    }
+    let mut behind = [0; 1];
+    match input.read_exact(&mut behind) {
+        Ok(()) => Ahead::Cut,
+        Err(_) => Ahead::End,
     }
 }
 
-// 65,536 zeros, for a loop that reads much.
-pub fn large_buffer() -> [u8; 65536]
-    ensures { 65536 ≡ length result }
+// The next N bytes; zeros where the input has ended.
+pub fn bytes<const N: usize>(input: &mut impl Read) -> [u8; N] {
+    let mut b = [0; N];
+    let _ = input.read_exact(&mut b);
+    b
+}
+
+// One byte; 0 where the input has ended.
+pub fn byte(input: &mut impl Read) -> u8 {
+    bytes::<1>(input)[0]
+}
+
+// Whether the next N bytes are these.
+pub fn same_bytes<const N: usize>(input: &mut impl Read, ours: &[u8; N]) -> bool {
+    let mut theirs = [0; N];
+    input.read_exact(&mut theirs).is_ok() && *ours == theirs
+}
+
+// An array of one value.
+pub fn room<T: Copy, const N: usize>(x: T) -> [T; N]
+    ensures { length result ≡ N }
 {
-    [0; 65536]
+    [x; N]
 }
 
 // Reads on to the end, where the input holds what the oracle doesn't write: no mark is found behind that.
-pub fn abandon(input: Stdin) {
-    let mut rest = large_buffer();
-    let mut turns = u64::MAX;
-    while turns > 0 && next(input, &mut rest) {
-        turns -= 1;
+pub fn abandon(input: &mut impl Read) {
+    let mut rest = room::<u8, 65536>(0);
+    for _ in 0..u64::MAX {
+        if input.read_exact(&mut rest).is_err() {
+            return;
+        }
     }
+}
+
+// A number up to a limit; where it is above, the input is abandoned.
+fn limited(input: &mut impl Read, x: usize, limit: usize) -> usize
+    ensures { result ≤ limit }
+{
+    if x > limit {
+        abandon(input);
+        return limit;
+    }
+    x
 }
 
 // A number of two bytes up to a limit; where it is above, the input is abandoned.
-pub fn small(input: Stdin, limit: usize) -> usize
+pub fn small(input: &mut impl Read, limit: usize) -> usize
     ensures { result ≤ limit }
 {
-    let mut b = [0u8; 2];
-    next(input, &mut b);
-    let x = little_endian::u16_at(&b, 0) as usize;
-    if x <= limit {
-        return x;
-    }
-    abandon(input);
-    limit
+    let x = u16::from_le_bytes(bytes(input));
+    limited(input, usize::from(x), limit)
 }
 
 // The same of four bytes.
-pub fn large(input: Stdin, limit: usize) -> usize
+pub fn large(input: &mut impl Read, limit: usize) -> usize
     ensures { result ≤ limit }
 {
-    let low = small(input, 65535);
-    let high = small(input, 65535);
-    let x = low + 65536 * high;
-    if x <= limit {
-        return x;
-    }
-    abandon(input);
-    limit
+    let low = usize::from(u16::from_le_bytes(bytes(input)));
+    let high = usize::from(u16::from_le_bytes(bytes(input)));
+    limited(input, low + 65536 * high, limit)
 }
 
-// A double of standard input.
-pub fn double(input: Stdin) -> f64 {
-    let mut b = [0u8; 8];
-    next(input, &mut b);
-    little_endian::f64_at(&b, 0)
+// The next double.
+pub fn double(input: &mut impl Read) -> f64 {
+    little_endian::f64_at(&bytes::<8>(input), 0)
+}
+
+// Whether the next two doubles are these; both are read.
+pub fn same_pair(input: &mut impl Read, dh: f64, dd: f64) -> bool {
+    let same_h = same_double(input, dh);
+    let same_d = same_double(input, dd);
+    same_h && same_d
+}
+
+pub fn read_doubles(input: &mut impl Read, s: &mut [f64]) {
+    for x in s {
+        *x = double(input);
+    }
 }
 
 // Whether two numbers are the same in their bits; any NaN is any NaN.
@@ -106,15 +120,9 @@ pub fn same_bits(x: f64, y: f64) -> bool {
     float::to_bits(x) == float::to_bits(y)
 }
 
-// Whether x is the next double of standard input.
-pub fn same_double(input: Stdin, x: f64) -> bool {
+// Whether x is the next double.
+pub fn same_double(input: &mut impl Read, x: f64) -> bool {
     same_bits(x, double(input))
-}
-
-pub fn read_doubles(input: Stdin, s: &mut [f64]) {
-    for i in 0..s.len() {
-        s[i] = double(input);
-    }
 }
 
 // Whether the numbers held so far are the oracle's, and whether each is a number.
@@ -124,58 +132,72 @@ pub struct Held {
     pub numbers: bool,
 }
 
-// Whether x is the oracle's next number.
-pub fn hold(input: Stdin, held: Held, x: f64) -> Held {
-    let same = same_double(input, x);
-    let number = x == x;
-    Held {
-        same: held.same && same,
-        numbers: held.numbers && number,
+impl Held {
+    // Whether x is the oracle's next number.
+    pub fn hold(&mut self, input: &mut impl Read, x: f64) {
+        self.same &= same_double(input, x);
+        self.numbers &= !x.is_nan();
     }
-}
 
-// Whether the numbers of s are the oracle's next ones.
-pub fn hold_all(input: Stdin, held: Held, s: &[f64]) -> Held {
-    let mut held = held;
-    for i in 0..s.len() {
-        held = hold(input, held, s[i]);
+    // The same of each number of s.
+    pub fn hold_all(&mut self, input: &mut impl Read, s: &[f64]) {
+        for x in s {
+            self.hold(input, *x);
+        }
     }
-    held
-}
-
-// The byte of a flag.
-pub fn flag_code(flag: bool) -> u8 {
-    if flag { 1 } else { 0 }
 }
 
 // One more: a count of records never wraps.
-pub fn more(n: u64) -> u64 {
-    n.wrapping_add(1)
+pub fn more(n: &mut u64) {
+    *n = n.wrapping_add(1);
 }
 
-// Writes text to standard output. Where a write fails, the rest is left out.
-pub fn write(output: Stdout, text: &[u8]) {
-    let mut output = output;
-    let _ = output.write_all(text);
+// How often each question refused, by its number.
+#[derive(Clone, Copy)]
+pub struct Refused(pub [u64; 16]);
+
+impl Refused {
+    pub fn none() -> Refused {
+        Refused([0; 16])
+    }
+
+    // A question's no. Its number is below 16.
+    pub fn count(&mut self, question: u8) {
+        more(&mut self.0[usize::from(question % 16)]);
+    }
+
+    // A question's number and how often it refused, on a line.
+    pub fn report(&self, output: &mut impl Write, question: u8) -> io::Result<()> {
+        let n = self.0[usize::from(question % 16)];
+        writeln!(output, "refused {question} {n}")
+    }
+
+    // The same of each of these questions.
+    pub fn report_all(&self, output: &mut impl Write, questions: &[u8]) -> io::Result<()> {
+        for question in questions {
+            self.report(output, *question)?;
+        }
+        Ok(())
+    }
 }
 
-// A space and a number.
-pub fn number(output: Stdout, n: u64) {
-    let mut output = output;
-    let _ = write!(output, " {n}");
+// What is lent beside a sheet. Not model's Place, which has the sheet too and is that crate's own.
+#[derive(Clone, Copy)]
+pub struct Place {
+    pub sin_lat: f64,
+    pub cos_lat: f64,
+    pub pier: u8,
 }
 
-// A label and a number on a line.
-pub fn line(output: Stdout, label: &[u8], n: u64) {
-    write(output, label);
-    number(output, n);
-    write(output, b"\n");
-}
-
-// A question's number and how often it refused, on a line.
-pub fn refused(output: Stdout, question: u64, n: u64) {
-    write(output, b"refused");
-    number(output, question);
-    number(output, n);
-    write(output, b"\n");
+impl Place {
+    pub fn read(input: &mut impl Read) -> Place {
+        let sin_lat = double(input);
+        let cos_lat = double(input);
+        let pier = byte(input);
+        Place {
+            sin_lat,
+            cos_lat,
+            pier,
+        }
+    }
 }

@@ -2,5 +2,5 @@
 #![tactic(auto)]
 
 fn main(rt: HostRuntime) {
-    replay_calls::replay(rt.stdin(), rt.stdout(), false);
+    replay_calls::replay(&mut rt.stdin(), &mut rt.stdout(), false);
 }

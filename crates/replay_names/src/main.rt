@@ -4,10 +4,12 @@
 
 ghost use Rattle.std.specs.Prelude.{◌≤◌, length};
 
-use equatorial::EquatorialTerm;
-use harmonic::{Components, Coordinate, HarmonicComponent, ResultType, TrigFunc};
-use std::rt::{Stdin, Stdout};
-use terms::{Reading, Term, TermKind};
+use harmonic::{Components, HarmonicComponent};
+use refusal::Refusal;
+use replay::{Ahead, Refused, more};
+use std::io;
+use std::io::{Read, Write};
+use terms::{Term, TermKind};
 
 #[derive(Clone, Copy)]
 struct Tally {
@@ -15,257 +17,131 @@ struct Tally {
     read: u64,
     // those that are pier sensitive
     sensitive: u64,
-    refused: [u64; 16],
+    refused: Refused,
     // harmonics of 4, 5 and 6 bytes in capitals
     short: [u64; 3],
     different: u64,
 }
 
-// A kind and TXN's number.
-#[derive(Clone, Copy)]
-struct Kind {
-    code: u8,
-    number: u8,
-}
-
-fn equatorial_code(t: EquatorialTerm) -> Kind {
-    match t {
-        EquatorialTerm::IH => Kind { code: 0, number: 0 },
-        EquatorialTerm::ID => Kind { code: 1, number: 0 },
-        EquatorialTerm::CH => Kind { code: 2, number: 0 },
-        EquatorialTerm::NP => Kind { code: 3, number: 0 },
-        EquatorialTerm::MA => Kind { code: 4, number: 0 },
-        EquatorialTerm::ME => Kind { code: 5, number: 0 },
-        EquatorialTerm::TF => Kind { code: 6, number: 0 },
-        EquatorialTerm::TX => Kind { code: 7, number: 0 },
-        EquatorialTerm::TXN(n) => Kind { code: 8, number: n },
-        EquatorialTerm::DAF => Kind { code: 9, number: 0 },
-        EquatorialTerm::FO => Kind {
-            code: 10,
-            number: 0,
-        },
-        EquatorialTerm::HCES => Kind {
-            code: 11,
-            number: 0,
-        },
-        EquatorialTerm::HCEC => Kind {
-            code: 12,
-            number: 0,
-        },
-        EquatorialTerm::DCES => Kind {
-            code: 13,
-            number: 0,
-        },
-        EquatorialTerm::DCEC => Kind {
-            code: 14,
-            number: 0,
-        },
-    }
-}
-
-fn result_code(r: ResultType) -> u8 {
-    match r {
-        ResultType::H => 0,
-        ResultType::D => 1,
-        ResultType::X => 2,
-        ResultType::P => 3,
-        ResultType::A => 4,
-        ResultType::E => 5,
-        ResultType::Z => 6,
-        ResultType::S => 7,
-    }
-}
-
-fn func_code(f: TrigFunc) -> u8 {
-    match f {
-        TrigFunc::Sin => 0,
-        TrigFunc::Cos => 1,
-    }
-}
-
-fn coord_code(c: Coordinate) -> u8 {
-    match c {
-        Coordinate::H => 0,
-        Coordinate::D => 1,
-        Coordinate::A => 2,
-        Coordinate::E => 3,
-        Coordinate::Z => 4,
-    }
-}
-
 // Whether the oracle's next three bytes are this component.
-fn same_component(input: Stdin, c: HarmonicComponent) -> bool {
-    let func = c.func;
-    let coord = c.coord;
-    let mut e = [0u8; 3];
-    let given = replay::next(input, &mut e);
-    let ours = [func_code(func), coord_code(coord), c.frequency];
-    given && check::same(&ours, &e)
+fn same_component(input: &mut impl Read, c: HarmonicComponent) -> bool {
+    replay::same_bytes(input, &[c.func as u8, c.coord as u8, c.frequency])
 }
 
 // Whether the oracle's next bytes are these components.
-fn same_components(input: Stdin, cs: Components) -> bool {
-    let list = cs.list;
+fn same_components(input: &mut impl Read, cs: Components) -> bool {
     let mut same = true;
-    let mut i = 0usize;
-    while i < 7 {
-        if i < cs.count {
-            if !same_component(input, list[i]) {
-                same = false;
-            }
-        }
-        i += 1;
+    for c in cs.list.iter().take(cs.count) {
+        same &= same_component(input, *c);
     }
     same
 }
 
 // The five bytes in front of the components as the oracle writes them: kind, TXN's number, result type, number of components, pier flag.
+// `as` after a remainder, since the type doesn't say that a count is at most 7.
 fn heading(t: Term) -> [u8; 5] {
-    let kind = t.kind;
-    let cs = t.components;
-    let count = (cs.count % 256) as u8;
-    let flag = replay::flag_code(t.pier_sensitive);
-    match kind {
-        TermKind::Equatorial(e) => {
-            let k = equatorial_code(e);
-            [k.code, k.number, 0, count, flag]
-        }
-        TermKind::Harmonic(r) => [15, 0, result_code(r), count, flag],
+    let flag = u8::from(t.pier_sensitive);
+    match t.kind {
+        TermKind::Equatorial(e) => [e.code(), e.txn_number(), 0, 0, flag],
+        TermKind::Harmonic(h) => [
+            15,
+            0,
+            h.result as u8,
+            (h.components.count % 256) as u8,
+            flag,
+        ],
     }
 }
 
 // Whether the oracle's next bytes are this term.
-fn same_term(input: Stdin, t: Term) -> bool {
-    let name = t.name;
-    let head = heading(t);
-    let components = t.components;
-    let mut expected = [0u8; 16];
-    let given = replay::next(input, &mut expected);
-    let same_name = check::same(&name, &expected);
-    let mut rest = [0u8; 5];
-    let rest_given = replay::next(input, &mut rest);
-    let same_head = check::same(&head, &rest);
-    let same_list = same_components(input, components);
-    given && rest_given && same_name && same_head && same_list
-}
-
-// Whether one of the first n bytes is a small letter.
-fn small_letter(s: &[u8]) -> bool {
-    for i in 0..s.len() {
-        if 97 <= s[i] {
-            if s[i] <= 122 {
-                return true;
-            }
-        }
-    }
-    false
+fn same_term(input: &mut impl Read, t: Term) -> bool {
+    let same_name = replay::same_bytes(input, &t.name);
+    let same_head = replay::same_bytes(input, &heading(t));
+    let same_list = match t.kind {
+        TermKind::Equatorial(_) => true,
+        TermKind::Harmonic(h) => same_components(input, h.components),
+    };
+    same_name && same_head && same_list
 }
 
 // Counts a harmonic of 4, 5 or 6 bytes without small letters.
-fn count_short(mut t: Tally, r: Reading, name: &[u8]) -> Tally {
-    let term = r.term;
-    let kind = term.kind;
-    let TermKind::Harmonic(_) = kind else {
-        return t;
-    };
+fn count_short(t: &mut Tally, kind: TermKind, name: &[u8]) {
     let n = name.len();
-    if n < 4 {
-        return t;
+    if matches!(kind, TermKind::Harmonic(_))
+        && 4 <= n
+        && n <= 6
+        && !name.iter().any(|b| b.is_ascii_lowercase())
+    {
+        more(&mut t.short[n - 4]);
     }
-    if 6 < n {
-        return t;
-    }
-    if small_letter(name) {
-        return t;
-    }
-    t.short[n - 4] = replay::more(t.short[n - 4]);
-    t
 }
 
 // Counts a reading, and whether it is the oracle's.
-fn count(input: Stdin, mut t: Tally, r: Reading, name: &[u8]) -> Tally {
+fn count(input: &mut impl Read, t: &mut Tally, reading: Result<Term, Refusal>, name: &[u8]) {
     let expected = replay::byte(input);
-    t.names = replay::more(t.names);
-    if r.refusal == 0 {
-        t.read = replay::more(t.read);
-        t = count_short(t, r, name);
-    } else {
-        let k = (r.refusal % 16) as usize;
-        t.refused[k] = replay::more(t.refused[k]);
-    }
-    if expected != r.refusal {
-        t.different = replay::more(t.different);
-        return t;
-    }
-    if expected == 0 {
-        let term = r.term;
-        if term.pier_sensitive {
-            t.sensitive = replay::more(t.sensitive);
+    more(&mut t.names);
+    let same = match reading {
+        Ok(term) => {
+            more(&mut t.read);
+            count_short(t, term.kind, name);
+            if expected == 0 && term.pier_sensitive {
+                more(&mut t.sensitive);
+            }
+            expected == 0 && same_term(input, term)
         }
-        if !same_term(input, term) {
-            t.different = replay::more(t.different);
+        Err(why) => {
+            t.refused.count(why.number());
+            expected == why.number()
         }
+    };
+    if !same {
+        more(&mut t.different);
     }
-    t
-}
-
-// Reads the n given bytes of a name and puts the first k of the slot to the reader.
-fn name(input: Stdin, t: Tally, slot: &mut [u8], n: usize, k: usize) -> Tally
-    requires { (n ≤ length slot.old) × (k ≤ length slot.old) }
-{
-    replay::next(input, &mut slot[..n]);
-    let r = terms::read_term(&slot[..k]);
-    count(input, t, r, &slot[..n])
 }
 
 // One record: n given bytes in a slot of k.
-fn record(input: Stdin, t: Tally, n: u8) -> Tally {
-    let k = replay::byte(input);
+fn record(input: &mut impl Read, t: &mut Tally, n: u8) {
+    let n = usize::from(n);
+    let k = usize::from(replay::byte(input));
     let mut slot = [0u8; 256];
-    name(
-        input,
-        t,
-        &mut slot,
-        little_endian::size(n),
-        little_endian::size(k),
-    )
+    let _ = input.read_exact(&mut slot[..n]);
+    let reading = terms::read_term(&slot[..k]);
+    count(input, t, reading, &slot[..n]);
 }
 
-fn report(output: Stdout, t: Tally) {
-    replay::line(output, b"names", t.names);
-    replay::line(output, b"read", t.read);
-    replay::line(output, b"pier sensitive", t.sensitive);
-    replay::refused(output, 2, t.refused[2]);
-    replay::refused(output, 7, t.refused[7]);
-    replay::refused(output, 8, t.refused[8]);
-    replay::refused(output, 9, t.refused[9]);
-    replay::refused(output, 10, t.refused[10]);
-    replay::write(output, b"harmonics of 4, 5 and 6 bytes");
-    replay::number(output, t.short[0]);
-    replay::number(output, t.short[1]);
-    replay::number(output, t.short[2]);
-    replay::write(output, b"\n");
-    replay::line(output, b"different", t.different);
-}
-
-fn main(rt: HostRuntime) {
-    let input = rt.stdin();
-    let output = rt.stdout();
+// All records.
+fn records(input: &mut impl Read) -> Tally {
     let mut t = Tally {
         names: 0,
         read: 0,
         sensitive: 0,
-        refused: [0; 16],
+        refused: Refused::none(),
         short: [0; 3],
         different: 0,
     };
-    let mut head = replay::head(input);
-    let mut turns = u64::MAX;
-    while turns > 0 && head.more {
-        t = record(input, t, head.first);
-        head = replay::head(input);
-        turns -= 1;
+    for _ in 0..u64::MAX {
+        match replay::head(input) {
+            Ahead::Record(first) => record(input, &mut t, first),
+            Ahead::End => return t,
+            Ahead::Cut => break,
+        }
     }
-    t.different = replay::ended(t.different, head);
-    report(output, t);
+    more(&mut t.different);
+    t
+}
+
+fn report(output: &mut impl Write, t: &Tally) -> io::Result<()> {
+    let [four, five, six] = t.short;
+    writeln!(output, "names {}", t.names)?;
+    writeln!(output, "read {}", t.read)?;
+    writeln!(output, "pier sensitive {}", t.sensitive)?;
+    t.refused.report_all(output, &[2, 7, 8, 9, 10])?;
+    writeln!(output, "harmonics of 4, 5 and 6 bytes {four} {five} {six}")?;
+    writeln!(output, "different {}", t.different)
+}
+
+fn main(rt: HostRuntime) {
+    let t = records(&mut rt.stdin());
+    // A report is whole where its last line is: where a write fails, it isn't.
+    let _ = report(&mut rt.stdout(), &t);
 }

@@ -7,3 +7,4 @@ pub mod Combine
 pub mod Partway
 pub mod Concat
 pub mod Passes
+mod Folds

@@ -67,14 +67,6 @@ fitted_to l s w ys zs w' f kept is r made e =
     copied w ys (2 * count_of l) (4 * count_of l) (omega arith) (omega (arith, f.room)) kept r w' F e made
     ∙ rw (is, sky_columns_are l, sky_differences_are l) refl
 
--- what the solver requires, of a list v as long
-pub solver_ready : (l : RunInputs) (w v : List Float) → Fits l w → length v ≡ length w
-    → (0 < length l.free) × (length l.free ≤ max_terms) × (2 * count_of l + length l.free ≤ height_in l)
-    × (8 * count_of l + length l.free * height_in l ≤ length v) × (2 * count_of l ≤ 2 * count_of l) × (4 * count_of l + 2 * count_of l ≤ 8 * count_of l)
-solver_ready l w v f e =
-    let r = fits_free l w f in
-    (f.counted.some_free, r.0, omega (arith, f.counted.free_few), rw e r.1, omega arith, omega arith)
-
 -- the residuals were at 4·n (w), then the columns were stacked (w₁) and the system solved (w₂)
 pub stepped : (l : RunInputs) (s w w₁ w₂ : List Float) (o : SolveOutcome) → Counted l → b_in l w ≡ to_fit (run_from l) s
     → part w₁ (8 * count_of l) (length l.free * height_in l)
@@ -90,11 +82,6 @@ stepped l s w w₁ w₂ o c b cols only e only' =
     (e ∙ rw (cols, unweighed_are l (sky_in l w), b₁, height_is l, rows_are l) refl, only'.below (4 * n) (2 * n) (omega arith) ∙ b₁)
 
 -- ---- what is left on the sky
-
--- a part that came back is lent again
-pub again : (v ys : List Float) (x : ℕ) → x + x ≤ length v → length ys ≡ length (take (x + x - x) (drop x v))
-    → length (take (x + x - x) (drop x (back v ys x x))) ≡ x
-again v ys x room kept = length_cut (back v ys x x) x x (rw (back_only v ys x x room kept).long room)
 
 -- a product was made at x in v, and taken from the differences, which came back there as ys
 pub left_on_sky : (l : RunInputs) (s v ys : List Float) (sum : Float) (sky : Sky) → Counted l → 2 * count_of l + 2 * count_of l ≤ length v

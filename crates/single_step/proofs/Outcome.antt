@@ -4,31 +4,31 @@ use mathlib.Core.Path.{◌≡◌, refl, ap, ◌∙◌}
 use mathlib.Core.List.{List}
 use lib.ListN.{length}
 use lib.Ieee.{Float}
-use Rattle.solver.specs.declared.Fit.TheVariants.{Refused}
+use Rattle.std.specs.Prelude.{⊤, Result, Ok, Err}
+use Rattle.refusal.specs.declared.Refusal.{Refusal}
+use Rattle.refusal.specs.Refusal.{number_of}
 use Rattle.solver.specs.declared.IterOptions.{IterOptions}
 use Rattle.solver.specs.declared.SigmaBy.{SigmaBy}
 use Rattle.solver.specs.Call.{FitInputs, Buffers, with_scratch, sizes_of}
 use Rattle.design.specs.Design.{Run, run_of}
-use Rattle.validate.specs.Questions.{scratch_needed, asked, no_options}
-use Rattle.validate.specs.declared.Asked.{Asked}
-use Rattle.validate.specs.declared.Asked.TheVariants.{Pass, No}
+use Rattle.validate.specs.Questions.{scratch_needed, asked_of, no_options}
 use Rattle.outcome.specs.Outcome.{Outcome, SameFit, SameButSigma, outcome, finished}
 use Rattle.outcome.proofs.AnyScratch.{finished-same, decided-same}
 use Rattle.outcome.proofs.AnyChoice.{finished_but_sigma, decided_but_sigma}
 use Rattle.outcome.proofs.Call.{answered, refusal_has_number}
 use Rattle.single_step.specs.SingleStep.{fitted_run, fitted, fit_outcome}
 
-module _ (l : FitInputs) (by : SigmaBy) (b : Buffers) (o : IterOptions) (none : o ≡ no_options) (r : Asked) (q : r ≡ asked l o (sizes_of b)) where
-  is : r ≡ asked l no_options (sizes_of b)
-  is = q ∙ ap (λ x. asked l x (sizes_of b)) none
+module _ (l : FitInputs) (by : SigmaBy) (b : Buffers) (o : IterOptions) (none : o ≡ no_options) (r : Result ⊤ Refusal) (q : r ≡ asked_of l o (sizes_of b)) where
+  is : r ≡ asked_of l no_options (sizes_of b)
+  is = q ∙ ap (λ x. asked_of l x (sizes_of b)) none
 
-  pub refused : (k : ℕ) → r ≡ No k → outcome (Refused k) b ≡ fit_outcome l by b
+  pub refused : (why : Refusal) → r ≡ Err why → outcome (Err why) b ≡ fit_outcome l by b
   unfolding fit_outcome
-  refused k e = answered l no_options b (fitted l by b) r (No k) is e
+  refused why e = answered l no_options b (fitted l by b) r (Err why) is e
 
-  pub accepted : (x : Outcome) → r ≡ Pass → x ≡ fitted l by b → x ≡ fit_outcome l by b
+  pub accepted : (x : Outcome) → r ≡ Ok tt → x ≡ fitted l by b → x ≡ fit_outcome l by b
   unfolding fit_outcome
-  accepted x e w = w ∙ answered l no_options b (fitted l by b) r Pass is e
+  accepted x e w = w ∙ answered l no_options b (fitted l by b) r (Ok tt) is e
 
 -- what a run needs of scratch, and the scratch that is lent, change no number of its fit
 pub any_need : (r : Run) (by : SigmaBy) (need need' : ℕ) (s : List Float) (b : Buffers) (w : List Float)
@@ -47,8 +47,8 @@ any_scratch l by b w long long' = decided-same l no_options b w long long' (fitt
 pub any_choice : (l : FitInputs) (by by' : SigmaBy) (b : Buffers) → SameButSigma (fit_outcome l by b) (fit_outcome l by' b)
 unfolding fit_outcome fitted_run
 any_choice l by by' b =
-    decided_but_sigma (asked l no_options (sizes_of b)) (fitted l by b) (fitted l by' b) b (finished_but_sigma (run_of l) by by' _ b _ _ _ _ _ _)
+    decided_but_sigma (asked_of l no_options (sizes_of b)) (fitted l by b) (fitted l by' b) b (finished_but_sigma (run_of l) by by' _ b _ _ _ _ _ _)
 
-pub refusal_not_zero : (l : FitInputs) (by : SigmaBy) (b : Buffers) (k : ℕ) → (fit_outcome l by b).answer ≡ Refused k → k ≡ 0 → ⊥
+pub refusal_not_zero : (l : FitInputs) (by : SigmaBy) (b : Buffers) (why : Refusal) → (fit_outcome l by b).answer ≡ Err why → number_of why ≡ 0 → ⊥
 unfolding fit_outcome fitted_run finished
 refusal_not_zero l by b = refusal_has_number l no_options b (fitted l by b) _ refl

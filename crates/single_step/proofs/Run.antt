@@ -6,23 +6,23 @@ use mathlib.Core.List.{List, ◌++◌, zip_with}
 use lib.ListN.{length, take, drop, replicate}
 use lib.Seq.{length-take-le}
 use lib.Ieee.{Float, add, sub, binary64}
+use Rattle.std.specs.Prelude.{Ok}
 use Rattle.float.specs.Float.{#0}
 use Rattle.sequence.specs.Sequence.{at, part}
 use Rattle.sequence.proofs.Parts.{part-take}
 use Rattle.linalg.specs.declared.SolveOutcome.{SolveOutcome}
 use Rattle.linalg.specs.Linalg.{Solved, leverage_of}
-use Rattle.solver.specs.declared.Fit.TheVariants.{Done}
 use Rattle.solver.specs.declared.FitResult.{FitResult}
 use Rattle.solver.specs.declared.SigmaBy.{SigmaBy}
 use Rattle.solver.specs.Call.{Buffers, buffers}
 use Rattle.design.specs.Design.{RunInputs, run_from, sights_at, product, extracted, weighed_at, scattered}
 use Rattle.design.specs.Counted.{Counted}
-use Rattle.design.proofs.Runs.{with_terms, rows_are, free_room}
+use Rattle.design.proofs.Runs.{rows_are, free_room}
 use Rattle.stats.specs.declared.Sky.{Sky}
 use Rattle.stats.specs.Stats.{degrees, sky_from, divisor, variance, sigma_at}
 use Rattle.outcome.specs.Outcome.{diagnostic_from, diagnostic_numbers, answer_of, outcome}
 use Rattle.outcome.specs.Scratch.{count_of, height_in, residuals_in, b_in, sky_in, columns_in, solved_in}
-use Rattle.outcome.proofs.Front.{renewed, Renewed, front_long, front_again, front_count, front_rest, front_part, front_above}
+use Rattle.outcome.proofs.Front.{renewed, Renewed, front_long, front_again, front_rest, front_part, front_above}
 use Rattle.outcome.proofs.Laws.{InOrder, solved_in-order, finishes}
 use Rattle.outcome.proofs.Runs.{unweighed_are}
 use Rattle.single_step.specs.SingleStep.{to_fit, step, change, new_coefficients, free_residuals, actual_residuals, once, fitted_run}
@@ -101,13 +101,6 @@ module _ {l : RunInputs} {need : ℕ} {w a v r : List Float} (t : Lent l need w 
       part-take (after_all l need w a v r) (2 * n) (2 * n) need (omega (arith, t.room)) lent_fits ∙ front_part t.left (2 * n) (2 * n) (omega arith)
       ∙ q ∙ rw (right, x, unweighed_are l (sky_in l (take (8 * n) w₂)), rows_are l) refl
 
--- ---- a run whose number of terms is counted on the set
-
-sky_as : (l : RunInputs) (k : ℕ) (u : List Float) (sky : Sky) → k ≡ l.m
-    → sky ≡ sky_from (run_from l).stars (length l.free) (actual_residuals (run_from (with_terms l k)) u)
-    → sky ≡ sky_from (run_from l).stars (length l.free) (actual_residuals (run_from l) u)
-sky_as l k u sky e q = rw e at q
-
 -- ---- all of it
 
 pub run-fitted : (l : RunInputs) (by : SigmaBy) (s : List Float) (need : ℕ) (b : Buffers) (a v r d moved set sigma' diagnostics' : List Float)
@@ -116,7 +109,7 @@ pub run-fitted : (l : RunInputs) (by : SigmaBy) (s : List Float) (need : ℕ) (b
     → Renewed b.change moved l.m → moved ≡ scattered l.free (at o.x) (replicate (length (take l.m b.change)) #0)
     → Renewed b.coefficients set l.m → set ≡ zip_with (add binary64) s (take l.m (renewed b.change moved l.m))
     → sky ≡ sky_from (run_from l).stars (length l.free)
-    (actual_residuals (run_from (with_terms l (length (take l.m (renewed b.coefficients set l.m))))) (take l.m (renewed b.coefficients set l.m)))
+    (actual_residuals (run_from l) (take l.m (renewed b.coefficients set l.m)))
     → part r (2 * count_of l) (2 * count_of l)
     ≡ zip_with (sub binary64) (b_in l (take (8 * count_of l) (after_sky l need b.scratch a v)))
     (product (2 * count_of l) (length l.free) (at o.x) (extracted l.free
@@ -132,7 +125,7 @@ pub run-fitted : (l : RunInputs) (by : SigmaBy) (s : List Float) (need : ℕ) (b
     (leverage_of (height_in l) (columns_in l (take need (after_all l need b.scratch a v r))) (take (length l.free) o.order) o.inv_s))
     ++ drop (3 * count_of l) b.diagnostics
     → d ≡ replicate (length (take need (after_all l need b.scratch a v r))) #0
-    → outcome (Done answer)
+    → outcome (Ok answer)
     (buffers (renewed b.coefficients set l.m) (renewed b.change moved l.m) sigma' diagnostics'
     (renewed (after_all l need b.scratch a v r) d need))
     ≡ fitted_run (run_from l) by need s b
@@ -141,7 +134,7 @@ run-fitted l by s need b a v r d moved set sigma' diagnostics' o sky answer t es
     let w₃ = after_all l need b.scratch a v r in
     let ch : moved ≡ change (run_from l) s = change_is l s a b.change moved o km.room es em in
     let new : set ≡ new_coefficients (run_from l) s = set_is l s b.change moved set km ch et in
-    let k = rw (front_again ks, new) at (sky_as l _ _ sky (front_count ks) ek) in
+    let k = rw (front_again ks, new) at ek in
     let zs : renewed w₃ d need ≡ replicate need #0 ++ drop need b.scratch = rw (ez, length-take-le need w₃ (lent_fits t), rest_kept t) refl in
     finishes l by need b (take need w₃) _ _ _ _ _ _ sigma' diagnostics' _ o (step (run_from l) s) sky once answer
     (step_kept t o (step (run_from l) s) es) (residuals_are t o s es eb er) k

@@ -9,7 +9,7 @@ use Rattle.linalg.specs.Linalg.{Solved, solved}
 use Rattle.solver.specs.declared.IterReport.{IterReport}
 use Rattle.solver.specs.declared.SigmaBy.{SigmaBy}
 use Rattle.solver.specs.Call.{FitInputs, Buffers, sizes_of}
-use Rattle.validate.specs.Questions.{scratch_needed, asked, no_options}
+use Rattle.validate.specs.Questions.{scratch_needed, asked_of, no_options}
 use Rattle.design.specs.Design.{Run, run_of, rows_of, height_of, column_of, sky_of, differences, sky_differences}
 use Rattle.design.specs.Design.{subtract_all, product, extracted, scattered, free_columns}
 use Rattle.outcome.specs.Outcome.{Outcome, decided, finished}
@@ -59,4 +59,4 @@ abbrev pub fitted : FitInputs → SigmaBy → Buffers → Outcome
 fitted l by b = fitted_run (run_of l) by (scratch_needed (length l.coefficients) (length l.dh)) l.coefficients b
 
 unfoldable pub fit_outcome : FitInputs → SigmaBy → Buffers → Outcome
-fit_outcome l by b = decided (asked l no_options (sizes_of b)) (fitted l by b) b
+fit_outcome l by b = decided (asked_of l no_options (sizes_of b)) (fitted l by b) b

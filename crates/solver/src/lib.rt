@@ -4,8 +4,10 @@
 ghost use Rattle.std.specs.Prelude.{◌≡◌};
 ghost use Rattle.solver.specs.Records.{deficient, condition_number, defaults};
 
+pub mod input;
+
 // What a fit is given as numbers: sine and cosine of the latitude, and the tolerance of the solver.
-#[derive(Clone, Copy)]
+#[derive(Clone, Copy, Debug, PartialEq)]
 pub struct Settings {
     pub sin_lat: f64,
     pub cos_lat: f64,
@@ -13,14 +15,14 @@ pub struct Settings {
 }
 
 // What sigma's sum of squares is counted over: the stars, as in the Rust, or the rows, two a star.
-#[derive(Clone, Copy)]
+#[derive(Clone, Copy, Debug, PartialEq, Eq)]
 pub enum SigmaBy {
     Stars,
     Rows,
 }
 
-// How many numbers the buffers of a fit have room for.
-#[derive(Clone, Copy)]
+// How many numbers the buffers of a fit have room for: their lengths alone, so that no question can touch one.
+#[derive(Clone, Copy, Debug, PartialEq, Eq)]
 pub struct Sizes {
     pub coefficients: usize,
     pub change: usize,
@@ -30,7 +32,7 @@ pub struct Sizes {
 }
 
 // What the solver found of the free terms' columns.
-#[derive(Clone, Copy)]
+#[derive(Clone, Copy, Debug, PartialEq)]
 pub struct RankInfo {
     pub n_free: usize,
     pub rank: usize,
@@ -50,13 +52,14 @@ impl RankInfo {
         ensures { result ≡ condition_number self }
     {
         if self.sigma_min > 0.0 {
-            return self.sigma_max / self.sigma_min;
+            self.sigma_max / self.sigma_min
+        } else {
+            f64::INFINITY
         }
-        1.0 / 0.0
     }
 }
 
-#[derive(Clone, Copy)]
+#[derive(Clone, Copy, Debug, PartialEq)]
 pub struct IterReport {
     pub iterations: usize,
     pub converged: bool,
@@ -65,7 +68,7 @@ pub struct IterReport {
 }
 
 #[repr(C)]
-#[derive(Clone, Copy)]
+#[derive(Clone, Copy, Debug, PartialEq)]
 pub struct IterOptions {
     pub max_iter: usize,
     pub tol_rad: f64,
@@ -76,8 +79,10 @@ pub struct IterOptions {
     pub huber_k: f64,
 }
 
-impl IterOptions {
-    pub fn default() -> IterOptions
+impl Default for IterOptions {
+    ghost is_default = { λ o. o ≡ defaults };
+
+    fn default() -> IterOptions
         ensures { result ≡ defaults }
     {
         IterOptions {
@@ -93,7 +98,7 @@ impl IterOptions {
 }
 
 // Of one star: the size of its residual on the sky, its leverage, and the residual in units of its own uncertainty.
-#[derive(Clone, Copy)]
+#[derive(Clone, Copy, Debug, PartialEq)]
 pub struct ObsDiagnostic {
     pub residual_sky: f64,
     pub leverage: f64,
@@ -102,7 +107,7 @@ pub struct ObsDiagnostic {
 
 // What a fit answers beside the coefficients, their change and sigma, and the diagnostics, which lie in lent buffers. Beside the Rust's record: how many
 // sweeps the last undamped solve made, the one without a turn included, and whether the last of them had none.
-#[derive(Clone, Copy)]
+#[derive(Clone, Copy, Debug, PartialEq)]
 pub struct FitResult {
     pub sky_rms: f64,
     pub popn_sd: f64,
@@ -110,11 +115,4 @@ pub struct FitResult {
     pub iter_report: IterReport,
     pub sweeps: usize,
     pub settled: bool,
-}
-
-// A whole fit, or the number of the question that refused it.
-#[derive(Clone, Copy)]
-pub enum Fit {
-    Done(FitResult),
-    Refused(u8),
 }

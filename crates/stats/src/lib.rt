@@ -5,7 +5,7 @@ ghost use Rattle.std.specs.Prelude.{◌≡◌, [], ◌+◌, ◌*◌, ◌≤◌, 
 ghost use Rattle.limits.specs.Limits.{max_terms, max_stars, sheet_numbers};
 ghost use Rattle.design.specs.Design.{sights_at, scattered};
 ghost use Rattle.design.specs.Counted.{Below};
-ghost use Rattle.stats.specs.Stats.{degrees as degrees_of, sum_sq_sky, rms_of, sd_of, sky_of_sum, divisor as divisor_of, variance as variance_of, sigma_at};
+ghost use Rattle.stats.specs.Stats.{degrees as degrees_of, sum_sq_sky, rms_of, sky_of_sum, divisor as divisor_of, variance as variance_of, sigma_at};
 ghost use Rattle.stats.specs.Stats.{clamped as clamped_of, studentized_row, diagnostic as diagnostic_of};
 
 use limits::MAX_TERMS;
@@ -18,20 +18,22 @@ pub struct Sky {
     pub popn_sd: f64,
 }
 
-// The residuals r, two a star, whose hour-angle rows are taken times cos dec here: their squares as one sum, in order. The sheets are those of n stars.
+// The residuals r, two a star, whose hour-angle rows are taken times cos dec here: their squares as one sum, in order. The sheets are those of n stars;
+// it asks for no pier codes, as `SightInput` does.
 pub fn sum_sq_sky(sheets: &[f64], n: usize, used: &[u16], r: &[f64]) -> f64
     requires { (length sheets.now ≡ sheet_numbers * n) × Below n used.now × (length r.now ≡ 2 * length used.now) }
     ensures { result ≡ sum_sq_sky (sights_at [] sheets.now used.now) r.now }
 {
     let mut sum = 0.0;
-    for i in 0..used.len() {
-        let dx = r[2 * i] * design::cos_dec(sheets, sequence::index(used[i]));
-        let dd = r[2 * i + 1];
-        sum = sum + (dx * dx + dd * dd);
+    for (star, &i) in r.chunks_exact(2).zip(used) {
+        let dx = star[0] * design::cos_dec(sheets, usize::from(i));
+        let dd = star[1];
+        sum += dx * dx + dd * dd;
     }
     sum
 }
 
+// The root of the mean of n squares, from their sum: 0 where there are none.
 fn compute_sky_rms(sum: f64, n: usize) -> f64
     requires { n ≤ max_stars }
     ensures { result ≡ rms_of n sum }
@@ -42,24 +44,15 @@ fn compute_sky_rms(sum: f64, n: usize) -> f64
     sqrt::sqrt(sum / n as f64)
 }
 
-fn compute_popn_sd(sum: f64, n: usize, n_free: usize) -> f64
-    requires { n ≤ max_stars }
-    ensures { result ≡ sd_of n n_free sum }
-{
-    if n <= n_free {
-        return 0.0;
-    }
-    sqrt::sqrt(sum / (n - n_free) as f64)
-}
-
 // Of n stars, from that sum, where n_free terms are free.
 pub fn sky_of_sum(sum: f64, n: usize, n_free: usize) -> Sky
     requires { n ≤ max_stars }
     ensures { result ≡ sky_of_sum n n_free sum }
 {
-    let rms = compute_sky_rms(sum, n);
-    let popn_sd = compute_popn_sd(sum, n, n_free);
-    Sky { rms, popn_sd }
+    Sky {
+        rms: compute_sky_rms(sum, n),
+        popn_sd: compute_sky_rms(sum, n.saturating_sub(n_free)),
+    }
 }
 
 // n less k, and at least 1.
@@ -67,10 +60,7 @@ pub fn degrees(n: usize, k: usize) -> usize
     ensures value { result ≡ degrees_of n k }
     ensures bound { result ≤ n + 1 }
 {
-    if n <= k {
-        return 1;
-    }
-    n - k
+    n.saturating_sub(k).max(1)
 }
 
 // What sigma's sum of squares is divided by, of n stars.
@@ -86,6 +76,7 @@ pub fn divisor(by: SigmaBy, n: usize, rank: usize) -> usize
 }
 
 // The residuals' squares over a divisor.
+#[tactic(auto, unfolding(crate::specs::Stats::variance))]
 pub fn variance(r: &[f64], dof: usize) -> f64
     requires { dof ≤ 2 * max_stars + 1 }
     ensures { result ≡ variance_of r.now dof }
@@ -98,46 +89,55 @@ pub fn compute_sigma(free: &[u16], s2: f64, cov_diag: &[f64; MAX_TERMS], sigma: 
     requires { (length free.now ≤ max_terms) × Below (length sigma.old) free.now }
     ensures { sigma.new ≡ scattered free.now (sigma_at s2 cov_diag.now) sigma.old }
 {
-    for i in 0..free.len() {
-        let j = sequence::index(free[i]);
-        sigma[j] = sqrt::sqrt(float::abs(s2 * cov_diag[i]));
+    for (&j, &c) in free.iter().zip(cov_diag) {
+        sigma[usize::from(j)] = sqrt::sqrt(float::abs(s2 * c));
     }
 }
 
+// A NaN stays: std has no clamp of a float.
+#[tactic(auto, unfolding(crate::specs::Stats::clamped))]
 fn clamped(x: f64) -> f64
     ensures { result ≡ clamped_of x }
 {
     if x < 0.0 {
-        return 0.0;
+        0.0
+    } else if x > 1.0 {
+        1.0
+    } else {
+        x
     }
-    if x > 1.0 {
-        return 1.0;
-    }
-    x
+}
+
+// A row of the data after a fit: its residual on the sky and its leverage.
+#[derive(Clone, Copy)]
+pub struct Row {
+    pub residual: f64,
+    pub leverage: f64,
 }
 
 // A row's residual in units of its uncertainty.
+#[tactic(auto, unfolding(crate::specs::Stats::studentized_row))]
 fn studentized_row(s: f64, r: f64, h: f64) -> f64
     ensures { result ≡ studentized_row s r h }
 {
-    if s > 0.0 {
-        if h < 1.0 {
-            return r / (s * sqrt::sqrt(1.0 - h));
-        }
+    if s > 0.0 && h < 1.0 {
+        r / (s * sqrt::sqrt(1.0 - h))
+    } else {
+        0.0
     }
-    0.0
 }
 
-// Of a star with the residuals r_ha and r_dec, whose rows have the leverages l_ha and l_dec.
-pub fn diagnostic(s: f64, r_ha: f64, r_dec: f64, l_ha: f64, l_dec: f64) -> ObsDiagnostic
-    ensures { result ≡ diagnostic_of s r_ha r_dec l_ha l_dec }
+// Of a star with these two rows.
+#[tactic(auto, unfolding(crate::specs::Stats::diagnostic))]
+pub fn diagnostic(s: f64, ha: Row, dec: Row) -> ObsDiagnostic
+    ensures { result ≡ diagnostic_of s ha.residual dec.residual ha.leverage dec.leverage }
 {
-    let h_ha = clamped(l_ha);
-    let h_dec = clamped(l_dec);
-    let t_ha = studentized_row(s, r_ha, h_ha);
-    let t_dec = studentized_row(s, r_dec, h_dec);
+    let h_ha = clamped(ha.leverage);
+    let h_dec = clamped(dec.leverage);
+    let t_ha = studentized_row(s, ha.residual, h_ha);
+    let t_dec = studentized_row(s, dec.residual, h_dec);
     ObsDiagnostic {
-        residual_sky: sqrt::sqrt(r_ha * r_ha + r_dec * r_dec),
+        residual_sky: sqrt::sqrt(ha.residual * ha.residual + dec.residual * dec.residual),
         leverage: h_ha + h_dec,
         studentized: sqrt::sqrt((t_ha * t_ha + t_dec * t_dec) / 2.0),
     }

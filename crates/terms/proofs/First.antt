@@ -1,57 +1,57 @@
--- Loops over slots that stop at the first number that is not 0. Assumes nothing.
-use Prim.Native.Nat.{ℕ, zero, suc, ◌+◌, ◌≤◌, ◌<◌}
+-- The first refusal among f 0 to f (n - 1). Assumes nothing.
+use Prim.Native.Nat.{ℕ, zero, suc, ◌+◌, ◌<◌}
 use native.Mathlib.Numerals.{add-one}
-use native.Mathlib.Nat.{le_antisymm}
 use native.Mathlib.Omega.{arith}
 use mathlib.Core.Path.{◌≡◌, refl, sym, ◌∙◌, ap}
-use mathlib.Core.Bool.{Bool, true, false, cond}
-use borrow.Author.Tests.{ne_eqb, eqb-true, eqb-false}
-use lib.Dec.{eqb}
+use Rattle.std.specs.Prelude.{Result, Ok, Err, ⊤}
+use Rattle.refusal.specs.Questions.{and_then}
+use Rattle.refusal.specs.declared.Refusal.{Refusal}
 use Rattle.sequence.proofs.Fills.{last_or}
-use Rattle.terms.specs.Slots.{first_of}
+use Rattle.terms.specs.Slots.{all_ok}
 
-module _ (f : ℕ → ℕ) where
-  pub first_none : first_of 0 f ≡ 0
-  unfolding first_of
-  first_none = refl
+module _ {A : Type 0} (f : ℕ → Result A Refusal) where
+  pub ok_none : all_ok 0 f ≡ Ok tt
+  unfolding all_ok
+  ok_none = refl
 
-  first-suc : (n : ℕ) → first_of n f ≡ 0 → first_of (suc n) f ≡ f n
-  unfolding first_of
-  first-suc n e = rw e
+  pub ok_step : (n : ℕ) (a : A) → all_ok n f ≡ Ok tt → f n ≡ Ok a → all_ok (n + 1) f ≡ Ok tt
+  unfolding all_ok
+  ok_step n a e q = rw (add-one n, e, q)
 
-  first-kept : (n : ℕ) → (first_of n f ≡ 0 → ⊥) → first_of (suc n) f ≡ first_of n f
-  unfolding first_of
-  first-kept n h = rw (ne_eqb (first_of n f) 0 h)
+  -- a refusal decides
+  stops : (n : ℕ) (why : Refusal) → all_ok n f ≡ Err why → all_ok (suc n) f ≡ Err why
+  unfolding all_ok
+  stops n why e = rw e
 
-  pub first_step : (n v : ℕ) → first_of n f ≡ 0 → v ≡ f n → v ≡ 0 → first_of (n + 1) f ≡ 0
-  first_step n v e q z = rw (add-one n) (first-suc n e ∙ sym q ∙ z)
+  refused : (n : ℕ) (why : Refusal) → all_ok n f ≡ Ok tt → f n ≡ Err why → all_ok (suc n) f ≡ Err why
+  unfolding all_ok
+  refused n why e q = rw (e, q)
 
-  pub first_stop : (i n v : ℕ) → i < n → first_of i f ≡ 0 → v ≡ f i → (v ≡ 0 → ⊥) → v ≡ first_of n f
-  first_stop i zero v h e q z = absurd (omega arith)
-  first_stop i (suc n) v h e q z =
+  pub ok_stop : (i n : ℕ) (why : Refusal) → i < n → all_ok i f ≡ Ok tt → f i ≡ Err why → all_ok n f ≡ Err why
+  ok_stop i zero why h e q = absurd (omega arith)
+  ok_stop i (suc n) why h e q =
       last_or i n h
-      (λ g. let r = first_stop i n v g e q z in r ∙ sym (first-kept n (λ y. z (r ∙ y))))
-      (λ same. q ∙ ap f same ∙ sym (first-suc n (ap (λ (k : ℕ). first_of k f) (sym same) ∙ e)))
+      (λ g. stops n why (ok_stop i n why g e q))
+      (λ same. refused n why (ap (λ (k : ℕ). all_ok k f) (sym same) ∙ e) (ap f (sym same) ∙ q))
 
-  pub first_end : (i n : ℕ) → i ≤ n → n ≤ i → first_of i f ≡ 0 → 0 ≡ first_of n f
-  first_end i n p q e = sym e ∙ ap (λ (k : ℕ). first_of k f) (le_antisymm p q)
+-- where none is refused each has an answer
+done : Result ⊤ Refusal
+done = Ok tt
 
--- where the first is 0 all are
-split : (b v : ℕ) → cond (eqb b 0) v b ≡ 0 → (b ≡ 0) × (v ≡ 0)
-split b v e = by (eqb b 0) refl e
-  where
-    by : (t : Bool) → eqb b 0 ≡ t → cond t v b ≡ 0 → (b ≡ 0) × (v ≡ 0)
-    by true q e = (eqb-true b 0 q, e)
-    by false q e = absurd (eqb-false b 0 q e)
+split : {A : Type 0} (r : Result ⊤ Refusal) (s : Result A Refusal) → and_then r (λ _. and_then s (λ _. done)) ≡ done → (r ≡ done) × (a : A) × (s ≡ Ok a)
+unfolding done
+split (Ok t) (Ok a) e = (refl, a, refl)
+split (Ok t) (Err why) e = absurd (cc)
+split (Err why) s e = absurd (cc)
 
-pub first_each : (f : ℕ → ℕ) (n : ℕ) → first_of n f ≡ 0 → (i : ℕ) → i < n → f i ≡ 0
-unfolding first_of
-first_each f zero e i h = absurd (omega arith)
-first_each f (suc n) e i h =
-    let both = split (first_of n f) (f n) e in
-    last_or i n h (λ g. first_each f n both.0 i g) (λ q. ap f q ∙ both.1)
+pub ok_each : {A : Type 0} (f : ℕ → Result A Refusal) (n : ℕ) → all_ok n f ≡ Ok tt → (i : ℕ) → i < n → (a : A) × (f i ≡ Ok a)
+unfolding all_ok done
+ok_each f zero e i h = absurd (omega arith)
+ok_each f (suc n) e i h =
+    let both = split (all_ok n f) (f n) e in
+    last_or i n h (λ g. ok_each f n both.0 i g) (λ q. (both.1, ap f q ∙ both.2))
 
-pub first_same : (n : ℕ) (f g : ℕ → ℕ) → ((i : ℕ) → i < n → f i ≡ g i) → first_of n f ≡ first_of n g
-unfolding first_of
-first_same zero f g e = refl
-first_same (suc n) f g e = rw (first_same n f g (λ i h. e i (omega arith)), e n (omega arith))
+pub ok_same : {A : Type 0} (n : ℕ) (f g : ℕ → Result A Refusal) → ((i : ℕ) → i < n → f i ≡ g i) → all_ok n f ≡ all_ok n g
+unfolding all_ok
+ok_same zero f g e = refl
+ok_same (suc n) f g e = rw (ok_same n f g (λ i h. e i (omega arith)), e n (omega arith))

@@ -1,9 +1,8 @@
 pub mod First
-pub mod Keys
-pub mod Digits
+pub mod Fixed
 pub mod Slots
-pub mod Asked
-pub mod Parts
+pub mod Digits
+pub mod Chunks
 pub mod Same
 pub mod Readings
 pub mod PierFlag

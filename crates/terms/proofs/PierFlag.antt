@@ -1,7 +1,10 @@
 -- The pier flag is right: where it is false the pair is the same whatever the pier, and where it is true East and West differ at the sheet of ones.
 -- Assumes nothing.
 use Prim.Native.Nat.{ℕ, ◌≤◌}
-use mathlib.Core.Path.{◌≡◌, refl, sym, ◌∙◌, ap}
+use mathlib.Core.Path.{◌≡◌, refl, sym, ◌∙◌, ap, subst}
+use Rattle.std.specs.Prelude.{Result, Ok, Err}
+use Rattle.refusal.specs.Questions.{and_then}
+use Rattle.refusal.specs.declared.Refusal.{Refusal}
 use mathlib.Core.Logic.{inl, inr}
 use mathlib.Core.Bool.{Bool, true, false, false≢true}
 use mathlib.Core.List.{List}
@@ -12,12 +15,11 @@ use Rattle.observation.specs.Observation.{sign_of, side_of}
 use Rattle.observation.specs.Sheet.{point_of}
 use Rattle.observation.specs.declared.Pair.{Pair}
 use Rattle.equatorial.specs.declared.EquatorialTerm.TheVariants.{IH, ID, CH, NP, MA, ME, TF, TX, TXN, DAF, FO, HCES, HCEC, DCES, DCEC}
-use Rattle.harmonic.specs.Value.{value_product, evaluate}
-use Rattle.harmonic.specs.declared.Components.{Components}
+use Rattle.harmonic.specs.Value.{evaluate, harmonic_jacobian}
 use Rattle.harmonic.specs.declared.ResultType.{ResultType}
-use Rattle.harmonic.proofs.Ones.{ones, OneOrZero, read_ones}
-use Rattle.terms.specs.Pier.{pier_sensitive_of}
-use Rattle.terms.specs.Names.{read_term}
+use Rattle.harmonic.proofs.Ones.{ones, OneOrZero, ReadOnes, read_ones}
+use Rattle.terms.specs.Pier.{sensitive_result, pier_sensitive_of}
+use Rattle.terms.specs.Names.{term_or_blank, read_term}
 use Rattle.terms.specs.Jacobian.{kind_jacobian, term_jacobian, jacobian_of, SameOnBoth, TurnsAt}
 use Rattle.terms.specs.declared.TermKind.{TermKind}
 use Rattle.terms.specs.declared.TermKind.TheVariants.{Equatorial, Harmonic}
@@ -26,9 +28,21 @@ use Rattle.terms.proofs.Readings.{of_reading}
 
 -- ---- false
 
-module _ (cs : Components) (sheet : List Float) (sinLat cosLat p q : Float) where
+module _ (sheet : List Float) (sinLat cosLat p q : Float) where
+  same_harmonic : (r : ResultType) (v : Float) → sensitive_result r ≡ false
+      → harmonic_jacobian r v (point_of sheet sinLat cosLat p) ≡ harmonic_jacobian r v (point_of sheet sinLat cosLat q)
+  unfolding point_of
+  same_harmonic ResultType.H v e = refl
+  same_harmonic ResultType.D v e = refl
+  same_harmonic ResultType.X v e = refl
+  same_harmonic ResultType.P v e = absurd (false≢true (sym e))
+  same_harmonic ResultType.A v e = refl
+  same_harmonic ResultType.E v e = refl
+  same_harmonic ResultType.Z v e = refl
+  same_harmonic ResultType.S v e = refl
+
   same_of : (k : TermKind) → pier_sensitive_of k ≡ false
-      → kind_jacobian k cs sheet (point_of sheet sinLat cosLat p) ≡ kind_jacobian k cs sheet (point_of sheet sinLat cosLat q)
+      → kind_jacobian k sheet (point_of sheet sinLat cosLat p) ≡ kind_jacobian k sheet (point_of sheet sinLat cosLat q)
   unfolding point_of
   same_of (Equatorial IH) e = refl
   same_of (Equatorial ID) e = absurd (false≢true (sym e))
@@ -45,14 +59,7 @@ module _ (cs : Components) (sheet : List Float) (sinLat cosLat p q : Float) wher
   same_of (Equatorial HCEC) e = refl
   same_of (Equatorial DCES) e = refl
   same_of (Equatorial DCEC) e = refl
-  same_of (Harmonic ResultType.H) e = refl
-  same_of (Harmonic ResultType.D) e = refl
-  same_of (Harmonic ResultType.X) e = refl
-  same_of (Harmonic ResultType.P) e = absurd (false≢true (sym e))
-  same_of (Harmonic ResultType.A) e = refl
-  same_of (Harmonic ResultType.E) e = refl
-  same_of (Harmonic ResultType.Z) e = refl
-  same_of (Harmonic ResultType.S) e = refl
+  same_of (Harmonic h) e = same_harmonic h.result (evaluate sheet h.components) e
 
 -- ---- true
 
@@ -68,69 +75,82 @@ unfolding neg mul of_bits minus
 turned v (inl p) e = false≢true (sym (ap minus (rw p at e)))
 turned v (inr p) e = false≢true (sym (ap minus (rw p at e)))
 
-module _ (cs : Components) (sinLat cosLat : Float) (value : OneOrZero (evaluate ones cs)) where
-  turns-of : (k : TermKind) → pier_sensitive_of k ≡ true
-      → kind_jacobian k cs ones (point_of ones sinLat cosLat #1) ≡ kind_jacobian k cs ones (point_of ones sinLat cosLat (neg #1)) → ⊥
+-- what is known of a kind's value on ones
+abbrev OnOnes : TermKind → Type 0
+OnOnes (Equatorial t) = Unit {0}
+OnOnes (Harmonic h) = OneOrZero (evaluate ones h.components)
+
+module _ (sinLat cosLat : Float) where
+  harmonic_turns : (r : ResultType) (v : Float) → OneOrZero v → sensitive_result r ≡ true
+      → harmonic_jacobian r v (point_of ones sinLat cosLat #1) ≡ harmonic_jacobian r v (point_of ones sinLat cosLat (neg #1)) → ⊥
+  unfolding point_of
+  harmonic_turns ResultType.H v o e d = false≢true e
+  harmonic_turns ResultType.D v o e d = false≢true e
+  harmonic_turns ResultType.X v o e d = false≢true e
+  harmonic_turns ResultType.P v o e d = turned v o (ap (λ (x : Pair). x.dh) d)
+  harmonic_turns ResultType.A v o e d = false≢true e
+  harmonic_turns ResultType.E v o e d = false≢true e
+  harmonic_turns ResultType.Z v o e d = false≢true e
+  harmonic_turns ResultType.S v o e d = false≢true e
+
+  turns-of : (k : TermKind) → OnOnes k → pier_sensitive_of k ≡ true
+      → kind_jacobian k ones (point_of ones sinLat cosLat #1) ≡ kind_jacobian k ones (point_of ones sinLat cosLat (neg #1)) → ⊥
   unfolding point_of neg mul div of_bits minus
-  turns-of (Equatorial IH) e d = false≢true e
-  turns-of (Equatorial ID) e d = false≢true (sym (ap (λ (x : Pair). minus x.dd) d))
-  turns-of (Equatorial CH) e d = false≢true (sym (ap (λ (x : Pair). minus x.dh) d))
-  turns-of (Equatorial NP) e d = false≢true (sym (ap (λ (x : Pair). minus x.dh) d))
-  turns-of (Equatorial MA) e d = false≢true e
-  turns-of (Equatorial ME) e d = false≢true e
-  turns-of (Equatorial TF) e d = false≢true e
-  turns-of (Equatorial TX) e d = false≢true e
-  turns-of (Equatorial (TXN n)) e d = false≢true e
-  turns-of (Equatorial DAF) e d = false≢true e
-  turns-of (Equatorial FO) e d = false≢true e
-  turns-of (Equatorial HCES) e d = false≢true e
-  turns-of (Equatorial HCEC) e d = false≢true e
-  turns-of (Equatorial DCES) e d = false≢true e
-  turns-of (Equatorial DCEC) e d = false≢true e
-  turns-of (Harmonic ResultType.H) e d = false≢true e
-  turns-of (Harmonic ResultType.D) e d = false≢true e
-  turns-of (Harmonic ResultType.X) e d = false≢true e
-  turns-of (Harmonic ResultType.P) e d = turned (evaluate ones cs) value (ap (λ (x : Pair). x.dh) d)
-  turns-of (Harmonic ResultType.A) e d = false≢true e
-  turns-of (Harmonic ResultType.E) e d = false≢true e
-  turns-of (Harmonic ResultType.Z) e d = false≢true e
-  turns-of (Harmonic ResultType.S) e d = false≢true e
+  turns-of (Equatorial IH) o e d = false≢true e
+  turns-of (Equatorial ID) o e d = false≢true (sym (ap (λ (x : Pair). minus x.dd) d))
+  turns-of (Equatorial CH) o e d = false≢true (sym (ap (λ (x : Pair). minus x.dh) d))
+  turns-of (Equatorial NP) o e d = false≢true (sym (ap (λ (x : Pair). minus x.dh) d))
+  turns-of (Equatorial MA) o e d = false≢true e
+  turns-of (Equatorial ME) o e d = false≢true e
+  turns-of (Equatorial TF) o e d = false≢true e
+  turns-of (Equatorial TX) o e d = false≢true e
+  turns-of (Equatorial (TXN n)) o e d = false≢true e
+  turns-of (Equatorial DAF) o e d = false≢true e
+  turns-of (Equatorial FO) o e d = false≢true e
+  turns-of (Equatorial HCES) o e d = false≢true e
+  turns-of (Equatorial HCEC) o e d = false≢true e
+  turns-of (Equatorial DCES) o e d = false≢true e
+  turns-of (Equatorial DCEC) o e d = false≢true e
+  turns-of (Harmonic h) o e d = harmonic_turns h.result (evaluate ones h.components) o e d
 
 -- ---- the term of every reading
 
-pub flag_of_kind : (slot : List ℕ) → (read_term slot).term.pier_sensitive ≡ pier_sensitive_of (read_term slot).term.kind
-flag_of_kind = of_reading (λ (t : Term). t.pier_sensitive ≡ pier_sensitive_of t.kind) (λ t name. refl) (λ n h. refl)
+abbrev term : List ℕ → Term
+term slot = term_or_blank (read_term slot)
 
-value_on_ones : (slot : List ℕ) → OneOrZero (evaluate ones (read_term slot).term.components)
-unfolding value_product
-value_on_ones = of_reading (λ (t : Term). OneOrZero (evaluate ones t.components)) (λ t name. inl refl) (λ n h. read_ones n)
+pub flag_of_kind : (slot : List ℕ) → (term slot).pier_sensitive ≡ pier_sensitive_of (term slot).kind
+flag_of_kind = of_reading (λ (t : Term). t.pier_sensitive ≡ pier_sensitive_of t.kind) (λ t name. refl) (λ n h l e. refl)
+
+value_on_ones : (slot : List ℕ) → OnOnes (term slot).kind
+value_on_ones = of_reading (λ (t : Term). OnOnes t.kind) (λ t name. tt) (λ n h l e. subst ReadOnes e (read_ones n))
 
 module _ (slot : List ℕ) (sheet : List Float) (sinLat cosLat p q : Float) where
-  same_at : (read_term slot).term.pier_sensitive ≡ false
-      → term_jacobian (read_term slot).term sheet sinLat cosLat p ≡ term_jacobian (read_term slot).term sheet sinLat cosLat q
-  same_at e =
-      let t = (read_term slot).term in
-      same_of t.components sheet sinLat cosLat p q t.kind (sym (flag_of_kind slot) ∙ e)
+  same_at : (term slot).pier_sensitive ≡ false → term_jacobian (term slot) sheet sinLat cosLat p ≡ term_jacobian (term slot) sheet sinLat cosLat q
+  same_at e = same_of sheet sinLat cosLat p q (term slot).kind (sym (flag_of_kind slot) ∙ e)
 
-pub same_on_both : (slot : List ℕ) → (read_term slot).term.pier_sensitive ≡ false → SameOnBoth (read_term slot).term
+pub same_on_both : (slot : List ℕ) → (term_or_blank (read_term slot)).pier_sensitive ≡ false → SameOnBoth (term_or_blank (read_term slot))
 same_on_both slot e sheet sinLat cosLat = same_at slot sheet sinLat cosLat _ _ e
 
-pub turns_with_pier : (slot : List ℕ) → (read_term slot).term.pier_sensitive ≡ true → TurnsAt (read_term slot).term
+pub turns_with_pier : (slot : List ℕ) → (term_or_blank (read_term slot)).pier_sensitive ≡ true → TurnsAt (term_or_blank (read_term slot))
 unfolding is_finite of_bits
 turns_with_pier slot e =
-    let t = (read_term slot).term in
     record {
       sheet = ones;
       whole = refl;
       finite = refl;
-      turns = λ sinLat cosLat. turns-of t.components sinLat cosLat (value_on_ones slot) t.kind (sym (flag_of_kind slot) ∙ e);
+      turns = λ sinLat cosLat. turns-of sinLat cosLat (term slot).kind (value_on_ones slot) (sym (flag_of_kind slot) ∙ e);
     }
 
 -- ---- the public call
 
 -- a term that is not pier sensitive has one answer for every known code
 pub jacobian_on_both : (name : List ℕ) (sheet : List Float) (sinLat cosLat : Float) (a b : ℕ) → a ≤ 2 → b ≤ 2
-    → (read_term name).term.pier_sensitive ≡ false → jacobian_of name sheet sinLat cosLat a ≡ jacobian_of name sheet sinLat cosLat b
+    → (term_or_blank (read_term name)).pier_sensitive ≡ false → jacobian_of name sheet sinLat cosLat a ≡ jacobian_of name sheet sinLat cosLat b
 unfolding jacobian_of
 jacobian_on_both name sheet sinLat cosLat a b ha hb e =
-    rw (le-leb a 2 ha, le-leb b 2 hb, same_at name sheet sinLat cosLat (sign_of (side_of a)) (sign_of (side_of b)) e)
+    rw (le-leb a 2 ha, le-leb b 2 hb, by (read_term name) (same_at name sheet sinLat cosLat (sign_of (side_of a)) (sign_of (side_of b)) e))
+  where
+    by : (r : Result Term Refusal) → term_jacobian (term_or_blank r) sheet sinLat cosLat (sign_of (side_of a)) ≡ term_jacobian (term_or_blank r) sheet sinLat cosLat (sign_of (side_of b))
+        → and_then r (λ t. Ok (term_jacobian t sheet sinLat cosLat (sign_of (side_of a)))) ≡ and_then r (λ t. Ok (term_jacobian t sheet sinLat cosLat (sign_of (side_of b))))
+    by (Ok t) q = ap Ok q
+    by (Err why) q = refl

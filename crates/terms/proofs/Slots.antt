@@ -1,48 +1,66 @@
 -- A slot's name, and the name with zeros behind. Assumes nothing.
 use Prim.Native.Nat.{ℕ, zero, suc, ◌+◌, ◌-◌, ◌≤◌, ◌<◌}
 use native.Mathlib.Omega.{arith}
-use native.Mathlib.Numerals.{add-one}
 use mathlib.Core.Path.{◌≡◌, refl, ◌∙◌, ap, ap₂, sym}
-use mathlib.Core.Bool.{Bool, true, false, cond, ◌&&◌, and-false}
-use mathlib.Core.List.{List, [], ◌∷◌, ◌++◌, append-nil, map, map-append}
-use lib.ListN.{length, get_or, take, drop, replicate, length-map, length-drop, drop_of_length-le, take-append-drop}
-use lib.Seq.{take_all, length-take-le, take-suc, append_snoc, drop-cons, take_at}
-use lib.Dec.{eqb, ltb, leb}
-use borrow.Author.Tests.{leb-true, ltb-true, lt-ltb, eq-eqb, ne_eqb, eqb-true, eqb-false}
+use mathlib.Core.Bool.{Bool, true, false, cond, ◌&&◌, and-false, not, true≢false}
+use mathlib.Core.List.{List, [], ◌∷◌, map}
+use lib.ListN.{length, take, drop, length-drop, length-map}
+use lib.Seq.{take_all}
+use lib.Dec.{eqb}
+use borrow.Author.Tests.{ltb-false, lt-ltb, le-ltb, eq-eqb}
+use Rattle.std.proofs.lemmas.List.Sums.{prefix_len-le-length}
+use Rattle.std.specs.Prelude.{Some, None, unwrap_or, position, IsAscii, MatchBool, ltb}
+use Rattle.std.specs.Str.{IsNotAscii}
+use Rattle.std.specs.List.{position_or_len, list_all}
 use Rattle.sequence.specs.Sequence.{every}
-use Rattle.terms.specs.Names.{padded, find, fixed_names, name_of, capital, well_formed, read_term, by_known, refused}
-use Rattle.terms.specs.Inside.{byte, Clean}
-use Rattle.sequence.proofs.Tests.{left_of, right_of}
+use Rattle.std.proofs.lemmas.List.Recursion.{is_position_or_len}
+use Rattle.terms.specs.Names.{capital, name_of, well_formed, find, fixed_names, by_known, read_term}
 
--- ---- the loop that looks for the first zero
-
--- the bytes passed are the name's, and what is left has the rest of it
-abbrev pub Named : List ℕ → ℕ → Type 0
-Named s k = name_of s ≡ take k s ++ name_of (drop k s)
-
-pub named_next : (s : List ℕ) (k : ℕ) → k < length s → (get_or s k 0 ≡ 0 → ⊥) → Named s k → Named s (k + 1)
+name_longer : (x : ℕ) (s : List ℕ) → length (name_of (x ∷ s)) ≡ cond (eqb x 0) 0 (1 + length (name_of s))
 unfolding name_of
-named_next s k h z e =
-    let d : name_of (drop k s) ≡ get_or s k 0 ∷ name_of (drop (suc k) s) = rw (drop-cons s k 0 h, ne_eqb (get_or s k 0) 0 z) in
-    rw (add-one k, take-suc s k 0 h) (e ∙ rw d (sym (append_snoc (take k s) (get_or s k 0) (name_of (drop (suc k) s)))))
+name_longer x s = by (eqb x 0)
+  where
+    by : (t : Bool) → length (cond t [] (x ∷ name_of s)) ≡ cond t 0 (1 + length (name_of s))
+    by true = refl
+    by false = omega arith
 
-pub named_stop : (s : List ℕ) (k : ℕ) → k < length s → get_or s k 0 ≡ 0 → Named s k → name_of s ≡ take k s
+name_none : length (name_of []) ≡ 0
 unfolding name_of
-named_stop s k h z e =
-    let d : name_of (drop k s) ≡ [] = rw (drop-cons s k 0 h, eq-eqb (get_or s k 0) 0 z) in
-    e ∙ rw d (append-nil (take k s))
+name_none = refl
 
-pub named_end : (s : List ℕ) (k : ℕ) → length s ≤ k → Named s k → name_of s ≡ take k s
-unfolding name_of
-named_end s k h e =
-    let d : name_of (drop k s) ≡ [] = rw (drop_of_length-le s h) in
-    e ∙ rw d (append-nil (take k s))
+-- a name ends at the first zero
+pub name_ends : (s : List ℕ) → length (name_of s) ≡ position_or_len (λ b. eqb b 0) s
+name_ends s = is_position_or_len (λ s. length (name_of s)) (λ b. eqb b 0) name_none name_longer s
 
--- ---- a slot's name
+-- `iter().position(|b| *b == 0)`, or the length
+pub name_ends_at : (s : List ℕ) → unwrap_or (position (λ b. eqb b 0) s) (length s) ≡ length (name_of s)
+name_ends_at s = by (ltb (position_or_len (λ b. eqb b 0) s) (length s)) refl
+  where
+    by : (t : Bool) → ltb (position_or_len (λ b. eqb b 0) s) (length s) ≡ t
+        → unwrap_or (cond t (Some (position_or_len (λ b. eqb b 0) s)) None) (length s) ≡ length (name_of s)
+    by true e = sym (name_ends s)
+    by false e = omega (arith, name_ends s, ltb-false (position_or_len (λ b. eqb b 0) s) (length s) e, prefix_len-le-length (λ b. not (eqb b 0)) s)
 
-not_zero : (b : ℕ) → (b ≡ 0 → ⊥) → 0 < b
-not_zero zero h = absurd (h refl)
-not_zero (suc b) h = omega arith
+pub end_within : (s : List ℕ) → length (name_of s) ≤ length s
+end_within s = omega (arith, name_ends s, prefix_len-le-length (λ b. not (eqb b 0)) s)
+
+-- bytes of ASCII, as `is_ascii` tells
+ascii : (s : List ℕ) → IsAscii s → every (λ b. ltb b 128) s ≡ true
+ascii [] h = refl
+ascii (x ∷ s) h = rw (lt-ltb x 128 (h 0)) (ascii s (λ i. h (suc i)))
+
+not_ascii : (s : List ℕ) → IsNotAscii s → every (λ b. ltb b 128) s ≡ false
+not_ascii [] (i, h) = absurd (omega arith)
+not_ascii (x ∷ s) (zero, h) = rw (le-ltb x 128 h)
+not_ascii (x ∷ s) (suc i, h) = rw (not_ascii s (i, h), and-false (ltb x 128))
+
+pub ascii_every : (r : Bool) (s : List ℕ) → MatchBool r (IsAscii s) (IsNotAscii s) → r ≡ every (λ b. ltb b 128) s
+ascii_every true s m = sym (ascii s m)
+ascii_every false s m = sym (not_ascii s m)
+
+pub all_every : {A : Type 0} (p : A → Bool) (s : List A) → list_all p s ≡ every p s
+all_every p [] = refl
+all_every p (x ∷ s) = ap (λ t. p x && t) (all_every p s)
 
 name_take : (s : List ℕ) → take (length (name_of s)) s ≡ name_of s
 unfolding name_of
@@ -54,135 +72,46 @@ name_take (b ∷ s) = by (eqb b 0) (name_take s)
     by true ih = refl
     by false ih = ap (λ u. b ∷ u) ih
 
-name_short : (s : List ℕ) → length (name_of s) ≤ length s
-unfolding name_of
-name_short [] = omega arith
-name_short (b ∷ s) = by (eqb b 0) (name_short s)
-  where
-    by : (t : Bool) → length (name_of s) ≤ length s → length (cond t [] (b ∷ name_of s)) ≤ suc (length s)
-    by true ih = omega arith
-    by false ih = omega arith
+-- ---- the name ends at n
 
-capital-byte : (b : ℕ) → 0 < b → b < 128 → byte (capital b) ≡ true
-capital-byte b h k = by (leb 97 b && leb b 122) refl
-  where
-    fits : (x : ℕ) → 0 < x → x < 256 → byte x ≡ true
-    fits x p q = rw (lt-ltb 0 x p, lt-ltb x 256 q)
-
-    by : (t : Bool) → (leb 97 b && leb b 122) ≡ t → byte (cond t (b - 32) b) ≡ true
-    by true e = let l = leb-true 97 b (left_of (leb 97 b) (leb b 122) e) in fits (b - 32) (omega arith) (omega arith)
-    by false e = fits b h (omega arith)
-
--- a name's capitals are bytes and none is zero
-name_bytes : (s : List ℕ) → every (λ b. ltb b 128) (name_of s) ≡ true → every byte (map capital (name_of s)) ≡ true
-unfolding name_of
-name_bytes [] e = refl
-name_bytes (b ∷ s) e = by (eqb b 0) refl (λ h. name_bytes s h) e
-  where
-    by : (t : Bool) → eqb b 0 ≡ t → (every (λ b. ltb b 128) (name_of s) ≡ true → every byte (map capital (name_of s)) ≡ true)
-        → every (λ b. ltb b 128) (cond t [] (b ∷ name_of s)) ≡ true
-        → every byte (map capital (cond t [] (b ∷ name_of s))) ≡ true
-    by true z ih e = refl
-    by false z ih e =
-        let nz = eqb-false b 0 z in
-        let lo : 0 < b = not_zero b nz in
-        let hi = ltb-true b 128 (left_of (ltb b 128) (every (λ b. ltb b 128) (name_of s)) e) in
-        rw (capital-byte b lo hi, ih (right_of (ltb b 128) (every (λ b. ltb b 128) (name_of s)) e))
-
--- zeros are a repeat of zero, and their capitals too
-zeros : (u : List ℕ) → every (λ b. eqb b 0) u ≡ true → map capital u ≡ replicate (length u) 0
-zeros [] e = refl
-zeros (b ∷ u) e =
-    let z = eqb-true b 0 (left_of (eqb b 0) (every (λ b. eqb b 0) u) e) in
-    ap₂ (λ (x : ℕ) (l : List ℕ). capital x ∷ l) z (zeros u (right_of (eqb b 0) (every (λ b. eqb b 0) u) e))
-
--- a slot of sixteen bytes, zeros behind its name, in capitals
-slot-padded : (s : List ℕ) → length s ≡ 16 → every (λ b. eqb b 0) (drop (length (name_of s)) s) ≡ true
-    → map capital s ≡ padded (map capital (name_of s))
-slot-padded s h e =
-    let n = length (name_of s) in
-    let split : s ≡ name_of s ++ drop n s = sym (take-append-drop n s) ∙ ap (λ u. u ++ drop n s) (name_take s) in
-    let rest : length (drop n s) ≡ 16 - length (map capital (name_of s)) = rw (length-drop, length-map, h) in
-    ap (map capital) split ∙ map-append capital (name_of s) (drop n s)
-    ∙ ap (λ u. map capital (name_of s) ++ u) (zeros (drop n s) e ∙ ap (λ k. replicate k 0) rest)
-
-slot_front : (s : List ℕ) → length s ≡ 16 → every (λ b. eqb b 0) (drop (length (name_of s)) s) ≡ true
-    → take (length (name_of s)) (map capital s) ≡ map capital (name_of s)
-slot_front s h e =
-    ap (take (length (name_of s))) (slot-padded s h e) ∙ take_at (map capital (name_of s)) _ (length (name_of s)) (length-map (name_of s) capital)
-
--- ---- the questions in order
-
-module _ (s : List ℕ) where
-  pub no_slot : (length s ≡ 16 → ⊥) → refused 2 ≡ read_term s
-  unfolding read_term
-  no_slot h = rw (ne_eqb (length s) 16 h)
-
-  ill : length s ≡ 16 → well_formed s ≡ false → refused 7 ≡ read_term s
-  unfolding read_term
-  ill h e = rw (eq-eqb (length s) 16 h, e)
-
-  well : length s ≡ 16 → well_formed s ≡ true → by_known (map capital (name_of s)) (find fixed_names (map capital (name_of s))) ≡ read_term s
-  unfolding read_term
-  well h e = rw (eq-eqb (length s) 16 h, e)
-
--- the code has found that the name ends at n
 module _ (s : List ℕ) (n : ℕ) (is : n ≡ length (name_of s)) where
-  pub end_within : n ≤ length s
-  end_within = omega (arith, name_short s)
-
   front : take n s ≡ name_of s
   front = ap (λ k. take k s) is ∙ name_take s
 
   behind : take (length s - n) (drop n s) ≡ drop (length (name_of s)) s
   behind = take_all (length s - n) (drop n s) (simp length-drop (omega arith)) ∙ ap (λ k. drop k s) is
 
-  module _ (sixteen : length s ≡ 16) where
-    pub no_byte : n ≡ 0 → refused 7 ≡ read_term s
-    unfolding well_formed
-    no_byte e = ill s sixteen (rw (sym is ∙ e))
+  pub some_byte : (v : Bool) → v ≡ not (eqb n 0) → n ≡ 0 → v ≡ true → ⊥
+  some_byte v e z t = true≢false (sym t ∙ e ∙ ap not (eq-eqb n 0 z))
 
-    pub not_ascii : every (λ b. ltb b 128) (take n s) ≡ false → refused 7 ≡ read_term s
-    unfolding well_formed
-    not_ascii e = ill s sixteen (rw (ap (every (λ b. ltb b 128)) (sym front) ∙ e, and-false (ltb 0 (length (name_of s)))))
+  pub empty : (v : Bool) → v ≡ not (eqb n 0) → n ≡ 0 → v ≡ well_formed s
+  unfolding well_formed
+  empty v e z = e ∙ ap not (eq-eqb n 0 z) ∙ rw (sym is ∙ z)
 
-    pub not_zeros : every (λ b. eqb b 0) (take (length s - n) (drop n s)) ≡ false → refused 7 ≡ read_term s
-    unfolding well_formed
-    not_zeros e =
-        ill s sixteen
-        (rw (ap (every (λ b. eqb b 0)) (sym behind) ∙ e) (and-false (ltb 0 (length (name_of s)) && every (λ b. ltb b 128) (name_of s))))
+  pub no_ascii : (r : Bool) → r ≡ false → r ≡ every (λ b. ltb b 128) (take n s) → r ≡ well_formed s
+  unfolding well_formed
+  no_ascii r f e = rw (sym (ap (every (λ b. ltb b 128)) front) ∙ sym e ∙ f, and-false (ltb 0 (length (name_of s)))) f
 
-    module _ (full : List ℕ) (full_is : full ≡ map capital s) where
-      pub full_length : length full ≡ 16
-      full_length = ap length full_is ∙ length-map s capital ∙ sixteen
+  pub all_well : (r a : Bool) → (n ≡ 0 → ⊥) → a ≡ true → a ≡ every (λ b. ltb b 128) (take n s) → r ≡ list_all (λ b. eqb b 0) (take (length s - n) (drop n s)) → r ≡ well_formed s
+  unfolding well_formed
+  all_well r a some t e z =
+      let more : 0 < length (name_of s) = omega arith in
+      rw (lt-ltb 0 (length (name_of s)) more, sym (ap (every (λ b. ltb b 128)) front) ∙ sym e ∙ t)
+      (z ∙ all_every (λ b. eqb b 0) (take (length s - n) (drop n s)) ∙ ap (every (λ b. eqb b 0)) behind)
 
-      module _ (some_byte : n ≡ 0 → ⊥)
-          (asciis : every (λ b. ltb b 128) (take n s) ≡ true)
-          (zeros : every (λ b. eqb b 0) (take (length s - n) (drop n s)) ≡ true) where
-        zeros-behind : every (λ b. eqb b 0) (drop (length (name_of s)) s) ≡ true
-        zeros-behind = ap (every (λ b. eqb b 0)) (sym behind) ∙ zeros
+-- ---- the capitals
 
-        asciis-front : every (λ b. ltb b 128) (name_of s) ≡ true
-        asciis-front = ap (every (λ b. ltb b 128)) (sym front) ∙ asciis
+take-map : (n : ℕ) (s : List ℕ) → take n (map capital s) ≡ map capital (take n s)
+take-map zero s = refl
+take-map (suc n) [] = refl
+take-map (suc n) (x ∷ s) = ap (λ u. capital x ∷ u) (take-map n s)
 
-        name-is : take n full ≡ map capital (name_of s)
-        name-is = ap₂ take is full_is ∙ slot_front s sixteen zeros-behind
+pub capitals_long : (s full : List ℕ) → full ≡ map capital s → length full ≡ length s
+capitals_long s full e = ap length e ∙ length-map s capital
 
-        above-none : 0 < n
-        above-none = not_zero n some_byte
-
-        pub clean : Clean (take n full) full
-        clean =
-            let long : length (take n full) ≡ n = length-take-le n full (omega (arith, end_within, full_length)) in
-            record {
-              some_bytes = omega (arith, above-none);
-              at_most = omega (arith, end_within);
-              bytes = ap (every byte) name-is ∙ name_bytes s asciis-front;
-              full_is = full_is ∙ slot-padded s sixteen zeros-behind ∙ ap padded (sym name-is);
-            }
-
-        pub created : by_known (take n full) (find fixed_names (take n full)) ≡ read_term s
-        unfolding well_formed
-        created =
-            ap (λ k. by_known k (find fixed_names k)) name-is
-            ∙ well s sixteen (rw (lt-ltb 0 (length (name_of s)) (omega (arith, above-none)), asciis-front, zeros-behind))
+pub created : (s : List ℕ) (n : ℕ) (full : List ℕ) → n ≡ length (name_of s) → full ≡ map capital s → length s ≡ 16 → well_formed s ≡ true
+    → by_known (take n full) (find fixed_names (take n full)) ≡ read_term s
+unfolding read_term
+created s n full is e sixteen well =
+    let name : take n full ≡ map capital (name_of s) = ap₂ take is e ∙ take-map (length (name_of s)) s ∙ ap (map capital) (name_take s) in
+    ap (λ k. by_known k (find fixed_names k)) name ∙ rw (eq-eqb (length s) 16 sixteen, well)

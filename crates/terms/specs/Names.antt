@@ -1,22 +1,22 @@
 -- What a name slot is read as: questions 2 and 7 to 10 (docs/SCOPE.md 4.1 to 4.3), and the names of terms/mod.rs. Definitions only.
 use Rattle.std.specs.Prelude.{ℕ, ◌+◌, ◌-◌, ◌*◌, ◌/◌, ◌%◌, List, [], ◌∷◌, ◌++◌, map, Bool, true, false, ◌&&◌, cond, length, get_or, drop, replicate, ltb, leb, eqb}
+use Rattle.std.specs.Prelude.{Option, None, Some, Result, Ok, Err}
 use Prim.Native.Char.{code}
 use Prim.Native.String.{String}
-use Rattle.std.proofs.Math.Option.{Option, none, some}
 use Rattle.limits.specs.Limits.{slot_bytes}
+use Rattle.refusal.specs.Questions.{ask, asked}
+use Rattle.refusal.specs.declared.Refusal.{Refusal}
+use Rattle.refusal.specs.declared.Refusal.TheVariants.{Lengths, NotAName, AltAzTerm, UnknownTerm, MalformedHarmonic}
 use Rattle.sequence.specs.Sequence.{every}
 use Rattle.equatorial.specs.declared.EquatorialTerm.TheVariants.{IH, ID, CH, NP, MA, ME, TF, TX, TXN, DAF, FO, HCES, HCEC, DCES, DCEC}
 use Rattle.harmonic.specs.Table.{ascii}
-use Rattle.harmonic.specs.Harmonic.{is_digit, array_of, parse_harmonic}
-use Rattle.harmonic.specs.declared.Components.{Components}
-use Rattle.harmonic.specs.declared.HarmonicRead.{HarmonicRead}
-use Rattle.terms.specs.Questions.{ask, first_no}
+use Rattle.harmonic.specs.Harmonic.{is_digit, parse_harmonic}
+use Rattle.harmonic.specs.declared.Harmonic.{Harmonic}
 use Rattle.terms.specs.Pier.{pier_sensitive_of}
 use Rattle.terms.specs.declared.TermKind.{TermKind}
 use Rattle.terms.specs.declared.Term.{Term}
-use Rattle.terms.specs.declared.Reading.{Reading}
 use Rattle.terms.specs.declared.names.Known.{Known}
-use Rattle.terms.specs.declared.names.Known.TheVariants.{Equatorial, AltAz, Other}
+use Rattle.terms.specs.declared.names.Known.TheVariants.{Equatorial, AltAz}
 
 -- ---- bytes
 
@@ -47,18 +47,19 @@ well_formed slot =
 
 -- ---- answers
 
-abbrev pub term_of : TermKind → List ℕ → Components → Term
-term_of kind name cs = record { kind = kind; name = name; components = cs; pier_sensitive = pier_sensitive_of kind }
+abbrev pub named : TermKind → List ℕ → Term
+named kind name = record { kind = kind; name = name; pier_sensitive = pier_sensitive_of kind }
 
-abbrev pub answer : ℕ → TermKind → List ℕ → Components → Reading
-answer n kind name cs = record { refusal = n; term = term_of kind name cs }
+abbrev pub accepted : TermKind → List ℕ → Result Term Refusal
+accepted kind name = Ok (named kind (padded name))
 
--- a refused reading carries a blank term
-abbrev pub refused : ℕ → Reading
-refused n = answer n (TermKind.Equatorial IH) (padded []) (array_of [])
+-- what fills a place where no term is
+abbrev pub blank_term : Term
+blank_term = named (TermKind.Equatorial IH) (padded [])
 
-abbrev pub accepted : TermKind → List ℕ → Components → Reading
-accepted kind name cs = answer 0 kind (padded name) cs
+abbrev pub term_or_blank : Result Term Refusal → Term
+term_or_blank (Ok t) = t
+term_or_blank (Err why) = blank_term
 
 -- ---- the fixed names
 
@@ -93,22 +94,22 @@ fixed_names =
     entry "AW" AltAz ∷
     []
 
-abbrev pub find : List Entry → List ℕ → Known
-find [] n = Other
-find (e ∷ t) n = cond (same n e.name) e.known (find t n)
+abbrev pub find : List Entry → List ℕ → Option Known
+find [] n = None
+find (e ∷ t) n = cond (same n e.name) (Some e.known) (find t n)
 
 -- ---- TX and a number
 
--- the number whose decimal digits are v's and then those of a text; none where some byte is no digit
+-- the number whose decimal digits are v's and then those of a text; None where some byte is no digit
 unfoldable pub digits_from : ℕ → List ℕ → Option ℕ
-digits_from v [] = some v
+digits_from v [] = Some v
 digits_from v (c ∷ s) =
     let rest = digits_from (v * 10 + (c - code "0")) s in
-    cond (is_digit c) rest none
+    cond (is_digit c) rest None
 
 -- Rust's parse of an unsigned number: a + may stand in front, and there is at least one digit
 unfoldable pub unsigned : List ℕ → Option ℕ
-unsigned [] = none
+unsigned [] = None
 unsigned (c ∷ []) = digits_from 0 (c ∷ [])
 unsigned (c ∷ d ∷ s) = cond (eqb c (code "+")) (digits_from 0 (d ∷ s)) (digits_from 0 (c ∷ d ∷ s))
 
@@ -118,33 +119,35 @@ short_decimal v =
     cond (ltb v 10) ((code "0" + v) ∷ [])
     (cond (ltb v 100) ((code "0" + v / 10) ∷ (code "0" + v % 10) ∷ []) ((code "0" + v / 100) ∷ (code "0" + v / 10 % 10) ∷ (code "0" + v % 10) ∷ []))
 
-abbrev pub numbered : Option ℕ → Reading
-numbered none = refused 9
-numbered (some v) = cond (leb 1 v && leb v 255) (accepted (TermKind.Equatorial (TXN v)) (ascii "TX" ++ short_decimal v) (array_of [])) (refused 9)
+abbrev pub numbered : Option ℕ → Result Term Refusal
+numbered None = Err UnknownTerm
+numbered (Some v) = cond (leb 1 v && leb v 255) (accepted (TermKind.Equatorial (TXN v)) (ascii "TX" ++ short_decimal v)) (Err UnknownTerm)
 
 -- ---- harmonics
 
-abbrev pub harmonic_of : List ℕ → HarmonicRead → Reading
-harmonic_of n h = cond h.ok (accepted (TermKind.Harmonic h.result) n h.components) (refused 10)
+abbrev pub harmonic_of : List ℕ → Option Harmonic → Result Term Refusal
+harmonic_of n None = Err MalformedHarmonic
+harmonic_of n (Some h) = accepted (TermKind.Harmonic h) n
 
-unfoldable pub read_harmonic : List ℕ → Reading
+unfoldable pub read_harmonic : List ℕ → Result Term Refusal
 read_harmonic n = harmonic_of n (parse_harmonic n)
 
 -- ---- the whole
 
 -- a name in capitals, by what it is among the fixed names (question 8); where it is none of them, TX and a number, or a name that begins with H (9 and 10)
-unfoldable pub by_known : List ℕ → Known → Reading
-by_known n (Equatorial t) = accepted (TermKind.Equatorial t) n (array_of [])
-by_known n AltAz = refused 8
-by_known n Other =
+unfoldable pub by_known : List ℕ → Option Known → Result Term Refusal
+by_known n (Some (Equatorial t)) = accepted (TermKind.Equatorial t) n
+by_known n (Some AltAz) = Err AltAzTerm
+by_known n None =
     cond (eqb (get_or n 0 0) (code "T") && eqb (get_or n 1 0) (code "X")) (numbered (unsigned (drop 2 n)))
-    (cond (eqb (get_or n 0 0) (code "H")) (read_harmonic n) (refused 9))
+    (cond (eqb (get_or n 0 0) (code "H")) (read_harmonic n) (Err UnknownTerm))
 
 -- question 2, question 7, and questions 8 to 10 of the name in capitals
-unfoldable pub read_term : List ℕ → Reading
+unfoldable pub read_term : List ℕ → Result Term Refusal
 read_term slot =
     let n = map capital (name_of slot) in
-    first_no refused (by_known n (find fixed_names n))
-    (ask (eqb (length slot) slot_bytes) 2 ∷
-    ask (well_formed slot) 7 ∷
+    asked
+    (ask (eqb (length slot) slot_bytes) Lengths ∷
+    ask (well_formed slot) NotAName ∷
     [])
+    (by_known n (find fixed_names n))

@@ -6,6 +6,16 @@ use Rattle.harmonic.specs.declared.ResultType.{ResultType}
 use Rattle.terms.specs.declared.TermKind.{TermKind}
 use Rattle.terms.specs.declared.TermKind.TheVariants.{Equatorial, Harmonic}
 
+abbrev pub sensitive_result : ResultType → Bool
+sensitive_result ResultType.H = false
+sensitive_result ResultType.D = false
+sensitive_result ResultType.X = false
+sensitive_result ResultType.P = true
+sensitive_result ResultType.A = false
+sensitive_result ResultType.E = false
+sensitive_result ResultType.Z = false
+sensitive_result ResultType.S = false
+
 abbrev pub pier_sensitive_of : TermKind → Bool
 pier_sensitive_of (Equatorial IH) = false
 pier_sensitive_of (Equatorial ID) = true
@@ -22,11 +32,4 @@ pier_sensitive_of (Equatorial HCES) = false
 pier_sensitive_of (Equatorial HCEC) = false
 pier_sensitive_of (Equatorial DCES) = false
 pier_sensitive_of (Equatorial DCEC) = false
-pier_sensitive_of (Harmonic ResultType.H) = false
-pier_sensitive_of (Harmonic ResultType.D) = false
-pier_sensitive_of (Harmonic ResultType.X) = false
-pier_sensitive_of (Harmonic ResultType.P) = true
-pier_sensitive_of (Harmonic ResultType.A) = false
-pier_sensitive_of (Harmonic ResultType.E) = false
-pier_sensitive_of (Harmonic ResultType.Z) = false
-pier_sensitive_of (Harmonic ResultType.S) = false
+pier_sensitive_of (Harmonic h) = sensitive_result h.result

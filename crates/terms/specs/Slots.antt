@@ -1,5 +1,7 @@
 -- Names one after the other in slots of 16 bytes, and the questions about them. Definitions only.
-use Rattle.std.specs.Prelude.{ℕ, zero, suc, ◌*◌, cond, List, eqb}
+use Rattle.std.specs.Prelude.{ℕ, zero, suc, ◌*◌, List, Result, Ok, ⊤}
+use Rattle.refusal.specs.Questions.{and_then}
+use Rattle.refusal.specs.declared.Refusal.{Refusal}
 use Rattle.limits.specs.Limits.{slot_bytes}
 use Rattle.sequence.specs.Sequence.{part}
 use Rattle.terms.specs.Names.{read_term}
@@ -8,13 +10,11 @@ use Rattle.terms.specs.Names.{read_term}
 abbrev pub slot : List ℕ → ℕ → List ℕ
 slot names i = part names (slot_bytes * i) slot_bytes
 
--- the first of f 0 to f (n - 1) that is not 0, or 0
-unfoldable pub first_of : ℕ → (ℕ → ℕ) → ℕ
-first_of zero f = 0
-first_of (suc n) f =
-    let before = first_of n f in
-    cond (eqb before 0) (f n) before
+-- the first refusal among f 0 to f (n - 1), if there is one
+unfoldable pub all_ok : {A : Type 0} → ℕ → (ℕ → Result A Refusal) → Result ⊤ Refusal
+all_ok zero f = Ok tt
+all_ok (suc n) f = and_then (all_ok n f) (λ _. and_then (f n) (λ _. Ok tt))
 
--- questions 7 to 10 of the first n names, all put to one name before the next, the lowest slot first: the number of the first no, or 0
-abbrev pub names_refusal : List ℕ → ℕ → ℕ
-names_refusal names n = first_of n (λ i. (read_term (slot names i)).refusal)
+-- questions 7 to 10 of the first n names, all put to one name before the next, the lowest slot first
+abbrev pub names_read : List ℕ → ℕ → Result ⊤ Refusal
+names_read names n = all_ok n (λ i. read_term (slot names i))

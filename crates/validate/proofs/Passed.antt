@@ -2,58 +2,27 @@
 use Prim.Native.Nat.{ℕ, ◌*◌, ◌≤◌, ◌<◌}
 use native.Mathlib.Omega.{arith}
 use mathlib.Core.Path.{◌≡◌, refl, sym, ◌∙◌}
-use mathlib.Core.Bool.{Bool, true, false, ◌&&◌, cond}
-use mathlib.Core.List.{List, [], ◌∷◌}
-use borrow.Author.Tests.{eqb-true, leb-true, ltb-true}
-use lib.Dec.{leb, ltb, eqb}
+use mathlib.Core.Bool.{true, ◌&&◌}
+use borrow.Author.Tests.{leb-true, ltb-true}
+use lib.Dec.{leb}
 use lib.ListN.{length}
-use Rattle.sequence.specs.Sequence.{every}
+use Rattle.std.specs.Prelude.{Result, Ok, Err, ⊤}
+use Rattle.refusal.specs.declared.Refusal.{Refusal}
+use Rattle.refusal.specs.Questions.{and_then}
 use Rattle.sequence.proofs.Tests.{left_of, right_of}
-use Rattle.terms.specs.Slots.{names_refusal}
-use Rattle.terms.specs.Questions.{Question, first_no}
+use Rattle.terms.specs.Slots.{names_read}
 use Rattle.design.specs.Design.{run_inputs_of}
 use Rattle.design.specs.Counted.{Counted}
 use Rattle.design.proofs.Indices.{up_to-length, up_to_below, indices_few, indices_below}
 use Rattle.solver.specs.declared.IterOptions.{IterOptions}
 use Rattle.solver.specs.declared.Sizes.{Sizes}
 use Rattle.solver.specs.Call.{FitInputs}
-use Rattle.validate.specs.Questions.{in_limits, counts, enough_room, scratch_needed, finite_input, finite_options, codes_known, free_count}
-use Rattle.validate.specs.Questions.{asked, Ready}
-use Rattle.validate.specs.declared.Asked.{Asked}
-use Rattle.validate.specs.declared.Asked.TheVariants.{Pass, No}
-use Rattle.validate.proofs.InOrder.{all}
-use Rattle.validate.proofs.Laws.{limits_facts, CountsMatch, counts_facts}
+use Rattle.validate.specs.Questions.{enough_room, scratch_needed, free_count, answered, numbers_asked, codes_asked, free_asked, asked_of, Ready}
+use Rattle.validate.proofs.Laws.{limits_facts, CountsMatch, counts_facts, first_yes}
 
-one : (b : Bool) (r : Asked) (k : ℕ) (t : Bool) → Pass ≡ cond b r (No k) → (Pass ≡ r → t ≡ true) → (b && t) ≡ true
-one true r k t h g = g h
-one false r k t h g = cc
-
-all_yes : (qs : List Question) → Pass ≡ first_no No Pass qs → every (λ q. q.yes) qs ≡ true
-all_yes [] e = refl
-all_yes (q ∷ qs) e = one q.yes (first_no No Pass qs) q.number (every (λ p. p.yes) qs) e (all_yes qs)
-
--- of ten questions, the first three, the seventh and the last two
-some : (a b c d e f g h i j : Bool) → (a && (b && (c && (d && (e && (f && (g && (h && (i && (j && true)))))))))) ≡ true
-    → (a ≡ true) × (b ≡ true) × (c ≡ true) × (g ≡ true) × (i ≡ true) × (j ≡ true)
-some a b c d e f g h i j t =
-    let r9 = j && true in
-    let r8 = i && r9 in
-    let r7 = h && r8 in
-    let r6 = g && r7 in
-    let r5 = f && r6 in
-    let r4 = e && r5 in
-    let r3 = d && r4 in
-    let r2 = c && r3 in
-    let r1 = b && r2 in
-    let t1 = right_of a r1 t in
-    let t2 = right_of b r2 t1 in
-    let t3 = right_of c r3 t2 in
-    let t4 = right_of d r4 t3 in
-    let t5 = right_of e r5 t4 in
-    let t6 = right_of f r6 t5 in
-    let t7 = right_of g r7 t6 in
-    let t8 = right_of h r8 t7 in
-    (left_of a r1 t, left_of b r2 t1, left_of c r3 t2, left_of g r7 t6, left_of i r9 t8, left_of j true (right_of i r9 t8))
+both_ok : {A B : Type 0} (a : Result A Refusal) (f : A → Result B Refusal) (v : B) → and_then a f ≡ Ok v → (u : A) × (a ≡ Ok u) × (f u ≡ Ok v)
+both_ok (Ok u) f v e = (u, refl, e)
+both_ok (Err why) f v e = cc
 
 record Roomy (s : Sizes) (m n : ℕ) : Type 0 where
   coefficients_room : m ≤ s.coefficients
@@ -82,9 +51,8 @@ room_facts s m n e =
     }
 
 -- what lengths that match, names that are read, one free term and as many stars say of the call's run
-counted : (l : FitInputs) → (length l.coefficients ≤ 32) × (length l.dh ≤ 1024)
-    → CountsMatch (length l.names) (length l.fixed) (length l.dd) (length l.pier) (length l.sheets) (length l.coefficients) (length l.dh)
-    → names_refusal l.names (length l.coefficients) ≡ 0 → 0 < free_count l.fixed → free_count l.fixed ≤ length l.dh
+counted : (l : FitInputs) → (length l.coefficients ≤ 32) × (length l.dh ≤ 1024) → CountsMatch l
+    → names_read l.names (length l.coefficients) ≡ Ok tt → 0 < free_count l.fixed → free_count l.fixed ≤ length l.dh
     → Counted (run_inputs_of l)
 counted l f c read free enough = record {
   terms = f.0;
@@ -102,25 +70,24 @@ counted l f c read free enough = record {
   used_enough = omega (arith, up_to-length (length l.dh), enough);
 }
 
-pub ready : (l : FitInputs) (o : IterOptions) (s : Sizes) (r : Asked) → r ≡ Pass → r ≡ asked l o s → Ready l s
-unfolding asked
+pub ready : (l : FitInputs) (o : IterOptions) (s : Sizes) (r : Result ⊤ Refusal) → r ≡ Ok tt → r ≡ asked_of l o s → Ready l s
+unfolding asked_of
 ready l o s r e q =
     let m = length l.coefficients in
     let n = length l.dh in
-    let free = free_count l.fixed in
-    let no = names_refusal l.names m in
-    let q1 = in_limits m n in
-    let q2 = counts (length l.names) (length l.fixed) (length l.dd) (length l.pier) (length l.sheets) m n in
-    let q3 = enough_room s m n in
-    let q4 = finite_input l && finite_options o in
-    let q5 = codes_known l.pier l.fixed in
-    let q6 = leb o.max_iter 1000 in
-    let t = all_yes (all l o s) (sym e ∙ q) in
-    let y = some q1 q2 q3 q4 q5 q6 (eqb no 0) (ltb 0 m) (ltb 0 free) (leb free n) t in
-    let c = counts_facts (length l.names) (length l.fixed) (length l.dd) (length l.pier) (length l.sheets) m n y.1 in
-    let h = room_facts s m n y.2 in
+    let parts = both_ok (answered (numbers_asked l o s)) _ tt (sym q ∙ e) in
+    let rest = both_ok (answered (codes_asked l.pier l.fixed o.max_iter)) _ tt parts.2 in
+    let named = both_ok (names_read l.names m) (λ _. answered (free_asked l.fixed m n)) tt rest.2 in
+    let limits = first_yes _ _ _ _ parts.1 in
+    let lengths = first_yes _ _ _ _ limits.1 in
+    let buffers = first_yes _ _ _ _ lengths.1 in
+    let some = first_yes _ _ _ _ named.2 in
+    let free = first_yes _ _ _ _ some.1 in
+    let stars = first_yes _ _ _ _ free.1 in
+    let c = counts_facts l lengths.0 in
+    let h = room_facts s m n buffers.0 in
     record {
-      counted = counted l (limits_facts m n y.0) c (eqb-true no 0 y.3) (ltb-true 0 free y.4) (leb-true free n y.5);
+      counted = counted l (limits_facts m n limits.0) c named.1 (ltb-true 0 _ free.0) (leb-true _ n stars.0);
       fixed_count = c.fixed_count;
       coefficients_room = h.coefficients_room;
       change_room = h.change_room;

@@ -1,18 +1,18 @@
 -- The questions that a fit is put, in the order of docs/SCOPE.md 10.2. Definitions only.
-use Rattle.std.specs.Prelude.{ℕ, ◌+◌, ◌*◌, ◌≤◌, ◌≡◌, Bool, false, ◌&&◌, List, [], ◌∷◌, ◌++◌, leb, ltb, eqb, length}
+use Rattle.std.specs.Prelude.{ℕ, ◌+◌, ◌*◌, ◌≤◌, ◌≡◌, Bool, false, ◌&&◌, List, [], ◌∷◌, ◌++◌, leb, ltb, eqb, length, Result, Ok, ⊤}
 use Rattle.limits.specs.Limits.{max_terms, max_stars, slot_bytes, sheet_numbers}
 use Rattle.float.specs.Float.{#0, is_finite}
+use Rattle.refusal.specs.declared.Refusal.{Refusal}
+use Rattle.refusal.specs.declared.Refusal.TheVariants.{Limits, Lengths, Room, NotFinite, Code, IterationLimit, NoTerm, NoFreeTerm, TooFewStars}
+use Rattle.refusal.specs.Questions.{Question, ask, asked, and_then}
 use Rattle.sequence.specs.Sequence.{every}
-use Rattle.terms.specs.Slots.{names_refusal}
-use Rattle.terms.specs.Questions.{Question, ask, first_no}
-use Rattle.design.specs.Design.{collect_indices, run_inputs_of}
+use Rattle.terms.specs.Slots.{names_read}
+use Rattle.design.specs.Design.{RunInputs, collect_indices, run_inputs, run_inputs_of}
 use Rattle.design.specs.Counted.{Counted}
 use Rattle.solver.specs.declared.IterOptions.{IterOptions}
 use Rattle.solver.specs.declared.Settings.{Settings}
 use Rattle.solver.specs.declared.Sizes.{Sizes}
 use Rattle.solver.specs.Call.{FitInputs}
-use Rattle.validate.specs.declared.Asked.{Asked}
-use Rattle.validate.specs.declared.Asked.TheVariants.{Pass, No}
 
 -- ---- the questions one by one; m counts the coefficients lent, n the hour-angle differences
 
@@ -23,6 +23,10 @@ in_limits m n = leb m max_terms && leb n max_stars
 -- 2: exactly as many name bytes, flags, declination differences, pier codes and sheet numbers as belong to them
 unfoldable pub counts : ℕ → ℕ → ℕ → ℕ → ℕ → ℕ → ℕ → Bool
 counts names fixed dd pier sheets m n = eqb names (slot_bytes * m) && eqb fixed m && eqb dd n && eqb pier n && eqb sheets (sheet_numbers * n)
+
+abbrev pub counts_in : FitInputs → Bool
+counts_in l =
+    counts (length l.names) (length l.fixed) (length l.dd) (length l.pier) (length l.sheets) (length l.coefficients) (length l.dh)
 
 -- what scratch needs
 unfoldable pub scratch_needed : ℕ → ℕ → ℕ
@@ -54,32 +58,39 @@ free_count fixed = length (collect_indices fixed)
 
 -- ---- in order
 
--- 1 to 3, of lengths alone: m, n, then those of names, flags, declination differences, pier codes and sheets, and the buffers'
-abbrev pub sizes_asked : ℕ → ℕ → ℕ → ℕ → ℕ → ℕ → ℕ → Sizes → List Question
-sizes_asked m n names fixed dd pier sheets s = ask (in_limits m n) 1 ∷ ask (counts names fixed dd pier sheets m n) 2 ∷ ask (enough_room s m n) 3 ∷ []
+-- where all are answered yes, or the refusal of the first that isn't
+abbrev pub answered : List Question → Result ⊤ Refusal
+answered qs = asked qs (Ok tt)
+
+-- 1 to 3, of lengths alone
+abbrev pub sizes_asked : FitInputs → Sizes → List Question
+sizes_asked l s =
+    let m = length l.coefficients in
+    let n = length l.dh in
+    ask (in_limits m n) Limits ∷ ask (counts_in l) Lengths ∷ ask (enough_room s m n) Room ∷ []
 
 -- 1 to 4, of lengths and numbers
 abbrev pub numbers_asked : FitInputs → IterOptions → Sizes → List Question
-numbers_asked l o s =
-    sizes_asked (length l.coefficients) (length l.dh) (length l.names) (length l.fixed) (length l.dd) (length l.pier) (length l.sheets) s
-    ++ (ask (finite_input l && finite_options o) 4 ∷ [])
+numbers_asked l o s = sizes_asked l s ++ (ask (finite_input l && finite_options o) NotFinite ∷ [])
 
 -- 5 and 6, of codes and the limit
 abbrev pub codes_asked : List ℕ → List ℕ → ℕ → List Question
-codes_asked pier fixed limit = ask (codes_known pier fixed) 5 ∷ ask (leb limit 1000) 6 ∷ []
+codes_asked pier fixed limit = ask (codes_known pier fixed) Code ∷ ask (leb limit 1000) IterationLimit ∷ []
+
+-- 11 to 13, of flags, m and n
+abbrev pub free_asked : List ℕ → ℕ → ℕ → List Question
+free_asked fixed m n =
+    let free = free_count fixed in
+    ask (ltb 0 m) NoTerm ∷ ask (ltb 0 free) NoFreeTerm ∷ ask (leb free n) TooFewStars ∷ []
 
 -- 7 to 13, of names, flags, m and n
-abbrev pub terms_asked : List ℕ → List ℕ → ℕ → ℕ → List Question
-terms_asked names fixed m n =
-    let no = names_refusal names m in
-    let free = free_count fixed in
-    ask (eqb no 0) no ∷ ask (ltb 0 m) 11 ∷ ask (ltb 0 free) 12 ∷ ask (leb free n) 13 ∷ []
+abbrev pub terms_asked : List ℕ → List ℕ → ℕ → ℕ → Result ⊤ Refusal
+terms_asked names fixed m n = and_then (names_read names m) (λ _. answered (free_asked fixed m n))
 
-unfoldable pub asked : FitInputs → IterOptions → Sizes → Asked
-asked l o s =
-    first_no No Pass
-    (numbers_asked l o s
-    ++ (codes_asked l.pier l.fixed o.max_iter ++ terms_asked l.names l.fixed (length l.coefficients) (length l.dh)))
+unfoldable pub asked_of : FitInputs → IterOptions → Sizes → Result ⊤ Refusal
+asked_of l o s =
+    and_then (answered (numbers_asked l o s))
+    (λ _. and_then (answered (codes_asked l.pier l.fixed o.max_iter)) (λ _. terms_asked l.names l.fixed (length l.coefficients) (length l.dh)))
 
 -- the single step takes no options: these pass questions 4 and 6
 abbrev pub no_options : IterOptions
@@ -93,6 +104,10 @@ no_options =
       robust = false;
       huber_k = #0;
     }
+
+-- what a fit's functions are lent of a call, of some free terms and the stars that count
+abbrev pub run_with : FitInputs → List ℕ → List ℕ → RunInputs
+run_with l free used = run_inputs (length l.coefficients) l.names free l.dh l.dd l.pier l.sheets used l.settings
 
 -- ---- what a fit may count on once its questions are passed
 

@@ -14,21 +14,6 @@ use Rattle.column.proofs.diagonals.Goals as goal
 pub loop-j-init : goal.loop-j-init
 loop-j-init c = passing_start
 
-pub overflow_mul-x : goal.overflow_mul-x
-overflow_mul-x c = omega (arith, apart c.loop-j.j c.args.m c.args.h (omega arith))
-
-pub overflow_add-x : goal.overflow_add-x
-overflow_add-x c = omega (arith, apart c.loop-j.j c.args.m c.args.h (omega arith))
-
-pub overflow_add-x-in-loop-j : goal.overflow_add-x-in-loop-j
-overflow_add-x-in-loop-j c = omega (arith, apart c.loop-j.j c.args.m c.args.h (omega arith))
-
-pub offset_bounds-w-x : goal.offset_bounds-w-x
-offset_bounds-w-x c = omega (arith, apart c.loop-j.j c.args.m c.args.h (omega arith))
-
-pub slice_bounds-diagonal-end : goal.slice_bounds-diagonal-end
-slice_bounds-diagonal-end c = omega (arith, apart c.loop-j.j c.args.m c.args.h (omega arith))
-
 pub loop-j-preserved : goal.loop-j-preserved
 loop-j-preserved c =
     let u = c.loop-j in

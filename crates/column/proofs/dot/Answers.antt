@@ -1,46 +1,21 @@
-use mathlib.Core.Path.{◌≡◌, refl}
-use native.Mathlib.Omega.{arith}
-use lib.ListN.{length}
-use Rattle.sequence.proofs.Sums.{dot_none, dot-step, dot_end}
-use Rattle.column.specs.Column.{extended}
-use Rattle.column.proofs.Laws.{length-extended, extended_data, extended-zero}
+-- `column::dot` meets its contract. Assumes nothing.
+use Rattle.std.specs.List.{zip}
+use Rattle.std.proofs.Common.{rules, ◌≡◌, ◌∙◌, length, take, drop, fold}
+use Rattle.std.proofs.lemmas.Iterator.{YieldsList-from_slice, YieldsList-from_zip}
+use Rattle.std.proofs.lemmas.Iterator.Consumers.{fold_from_yields_List}
+use Rattle.float.specs.Float.{#0}
+use Rattle.column.proofs.Laws.{product, no_product, dot-extended}
 use Rattle.column.proofs.dot.Goals as goal
-
-pub loop-k-init : goal.loop-k-init
-loop-k-init c =
-    let x = c.args.x.now in
-    (omega arith, refl, dot_none x (extended (length x) c.args.b.now))
-
-pub loop-k-preserved : goal.loop-k-preserved
-loop-k-preserved c =
-    let a = c.args in
-    let u = c.loop-k in
-    let x = a.x.now in
-    let b = a.b.now in
-    let n = length-extended (length x) b c.requires in
-    (omega arith, omega arith, dot-step x (extended (length x) b) _ _ _ u.invariant.2 (extended_data (length x) b c.requires _ (omega arith)) (omega arith) (omega arith))
-
-pub loop-k-2-init : goal.loop-k-2-init
-loop-k-2-init c =
-    let u = c.loop-k in
-    let e : u.k ≡ length c.args.b.now = omega arith in
-    (omega arith, omega arith, refl, rw e at u.invariant.2)
-
-pub loop-k-2-preserved : goal.loop-k-2-preserved
-loop-k-2-preserved c =
-    let a = c.args in
-    let u = c.loop-k-2 in
-    let x = a.x.now in
-    let b = a.b.now in
-    let n = length-extended (length x) b c.requires in
-    let zero = extended-zero (length x) b c.requires u.k (omega arith) (omega arith) in
-    (omega arith, omega arith, omega arith, dot-step x (extended (length x) b) _ _ _ u.invariant.3 zero (omega arith) (omega arith))
 
 pub returns : goal.returns
 returns c =
-    let a = c.args in
-    let u = c.loop-k-2 in
-    let x = a.x.now in
-    let b = a.b.now in
-    let n = length-extended (length x) b c.requires in
-    dot_end x (extended (length x) b) u.k _ (omega arith) (omega arith) u.invariant.3
+    let x = c.args.x.now in
+    let b = c.args.b.now in
+    let t = c.fold-t.result in
+    let n = length b in
+    let with_b : t ≡ fold product #0 (zip (take n x) b) =
+    fold_from_yields_List _ product #0 _ c.fold-t.ensures.ran
+    (YieldsList-from_zip (YieldsList-from_slice (take n x) (search rules)) (YieldsList-from_slice b (search rules))) (λ a p r q k. search rules) in
+    let rest : c.fold.result ≡ fold no_product t (drop n x) =
+    fold_from_yields_List _ no_product t _ c.fold.ensures.ran (YieldsList-from_slice (drop n x) (search rules)) (λ a p r q k. search rules) in
+    rest ∙ rw with_b (dot-extended x b c.requires)

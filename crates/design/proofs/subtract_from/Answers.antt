@@ -1,16 +1,14 @@
-use mathlib.Core.Logic.{inl}
-use native.Mathlib.Nat.{le_refl}
-use native.Mathlib.Omega.{arith}
-use Rattle.sequence.proofs.Combine.{start, next, end}
+-- `design::subtract_from` meets its contract. Assumes nothing.
+use mathlib.Core.Path.{ap, ◌∙◌}
+use Rattle.std.proofs.Common.{rules}
+use lib.Seq.{sets}
+use lib.Ieee.{binary64, sub}
+use Rattle.sequence.specs.Sequence.{part}
+use Rattle.design.proofs.Lists.{zip_turned}
 use Rattle.design.proofs.subtract_from.Goals as goal
 
-pub loop-k-init : goal.loop-k-init
-loop-k-init c = start _ _ _ _ _ _
-
-pub loop-k-preserved : goal.loop-k-preserved
-loop-k-preserved c =
-    let u = c.loop-k in
-    next _ _ _ _ _ _ u.k u.w (omega arith) (omega arith) (inl (omega arith)) (inl (le_refl _)) (omega arith) u.invariant
-
 pub returns : goal.returns
-returns c = end _ _ _ _ _ _ _ _ (omega arith) c.loop-k.invariant
+returns c =
+    let a = c.args in
+    c.combine.ensures (λ x y. sub binary64 y x) (search rules)
+    ∙ ap (sets a.w.now a.x) (zip_turned (sub binary64) (part a.w.now a.y a.n) (part a.w.now a.x a.n))

@@ -1,27 +1,20 @@
-use mathlib.Core.Path.{sym}
-use mathlib.Core.Logic.{inl}
-use native.Mathlib.Nat.{le_refl}
-use native.Mathlib.Omega.{arith}
+-- `design::weigh` meets its contract. Assumes nothing.
+use mathlib.Core.Path.{sym, ap, ◌∙◌}
+use lib.Seq.{sets}
+use Rattle.std.proofs.Common.{rules}
+use Rattle.sequence.specs.Sequence.{part}
 use Rattle.sequence.proofs.Parts.{sets_same}
-use Rattle.sequence.proofs.Combine.{start, next, end}
-use Rattle.design.specs.Design.{weighing}
+use Rattle.design.specs.Design.{weighed, weighing}
+use Rattle.design.proofs.Lists.{zip_turned}
 use Rattle.design.proofs.weigh.Goals as goal
 
-pub loop-i-init : goal.loop-i-init
-loop-i-init c = start _ _ _ _ _ _
-
-pub weighed-requires : goal.weighed-requires
-weighed-requires c = tt
-
-pub loop-i-preserved : goal.loop-i-preserved
-loop-i-preserved c =
-    let u = c.loop-i in
-    let beside = c.requires.0 in
-    rw c.weighed.ensures (next _ _ _ _ _ _ u.i u.w (omega arith) (omega arith) beside (inl (le_refl _)) (omega arith) u.invariant)
-
-pub returns-after-loop-i : goal.returns-after-loop-i
+pub returns-then-k : goal.returns-then-k
 unfolding weighing
-returns-after-loop-i c = rw c.if-k.true (end _ _ _ _ _ _ _ _ (omega arith) c.loop-i.invariant)
+returns-then-k c =
+    let a = c.args in
+    rw c.if-k.true
+    (c.combine.ensures (λ x r. weighed a.k r x) (search rules)
+    ∙ ap (sets a.w.now a.x) (zip_turned (weighed a.k) (part a.w.now a.y a.n) (part a.w.now a.x a.n)))
 
 pub returns-else-k : goal.returns-else-k
 unfolding weighing

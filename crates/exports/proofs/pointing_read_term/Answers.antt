@@ -1,11 +1,6 @@
 -- `exports::pointing_read_term` meets its contract. Assumes nothing.
-use mathlib.Core.Path.{ap, ◌∙◌}
-use Rattle.exports.specs.Term.{term_answer}
 use Rattle.exports.proofs.Few.{few}
 use Rattle.exports.proofs.pointing_read_term.Goals as goal
 
 pub term_answer-requires : goal.term_answer-requires
 term_answer-requires c = rw c.read_term.ensures (few _)
-
-pub returns : goal.returns
-returns c = c.term_answer.ensures ∙ ap term_answer c.read_term.ensures

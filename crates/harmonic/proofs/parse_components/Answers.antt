@@ -1,40 +1,49 @@
+-- `harmonic::parse_components` meets its contract. Assumes nothing.
 use native.Mathlib.Omega.{arith}
-use mathlib.Core.Path.{◌∙◌, ap, sym, subst}
-use mathlib.Core.Bool.{false}
-use Rattle.harmonic.specs.Harmonic.{read_of}
-use Rattle.harmonic.specs.declared.Components.{Components}
-use Rattle.harmonic.proofs.Reading.{Read, start, broken, further, next, done}
+use mathlib.Core.Path.{◌≡◌, ◌∙◌, sym, ap}
+use Rattle.std.proofs.Common.{rules, length, ◌<◌}
+use Rattle.std.specs.Prelude.{option_map}
+use Rattle.std.proofs.lemmas.Bool.Decides.{nat_tests}
+use lib.ListN.{length-take, length-drop}
+use Rattle.harmonic.specs.Harmonic.{array_of}
+use Rattle.harmonic.proofs.Reading.{broken, fits, next, done}
 use Rattle.harmonic.proofs.parse_components.Goals as goal
 
-pub loop-i-init : goal.loop-i-init
-loop-i-init c =
-    let s = c.args.chars.now in
-    subst (λ (cs : Components). Read s cs.list 0 0) (sym c.no_components-none.ensures) (start s)
+pub returns-in_err-c : goal.returns-in_err-c
+returns-in_err-c c =
+    let l = c.loop-rest in
+    let more : 0 < length l.rest.now = grind (arith, nat_tests) in
+    let ill = broken _ c.requires _ _ _ l.invariant more (sym c.first_component.ensures ∙ c.in_err-c.was) in
+    c.from_residual.ensures ∙ sym (ap (option_map array_of) ill)
 
-pub returns-in_default : goal.returns-in_default
-returns-in_default c =
-    let s = c.args.chars.now in
-    let l = c.loop-i in
-    let ill = broken s c.requires l.list l.count l.i l.invariant c.loop-i-test.true (sym c.component_at.ensures ∙ c.in_default.is) in
-    ap (λ (cs : Components). record { ok = false; components = cs }) c.no_components-none.ensures ∙ sym (ap read_of ill)
+pub slice_bounds-rest-count : goal.slice_bounds-rest-count
+slice_bounds-rest-count c =
+    let l = c.loop-rest in
+    let more : 0 < length l.rest.now = grind (arith, nat_tests) in
+    (fits _ c.requires _ _ _ l.invariant more _ _ (sym c.first_component.ensures ∙ c.in_ok-c.was)).2
 
-pub loop-i-smaller : goal.loop-i-smaller
-loop-i-smaller c =
-    let s = c.args.chars.now in
-    let l = c.loop-i in
-    let m = c.in-Component in
-    let f = further s c.requires l.list l.count l.i l.invariant c.loop-i-test.true m.c m.next (sym c.component_at.ensures ∙ m.is) in
-    omega (arith, f.0, f.1)
+pub slice_bounds-rest-start : goal.slice_bounds-rest-start
+slice_bounds-rest-start c =
+    let l = c.loop-rest in
+    let more : 0 < length l.rest.now = grind (arith, nat_tests) in
+    let f = fits _ c.requires _ _ _ l.invariant more _ _ (sym c.first_component.ensures ∙ c.in_ok-c.was) in
+    search rules
 
-pub loop-i-preserved : goal.loop-i-preserved
-loop-i-preserved c =
-    let s = c.args.chars.now in
-    let l = c.loop-i in
-    let m = c.in-Component in
-    next s c.requires l.list l.count l.i l.invariant c.loop-i-test.true m.c m.next (sym c.component_at.ensures ∙ m.is)
+pub loop-rest-smaller : goal.loop-rest-smaller
+loop-rest-smaller c =
+    let l = c.loop-rest in
+    let more : 0 < length l.rest.now = grind (arith, nat_tests) in
+    let f = fits _ c.requires _ _ _ l.invariant more _ _ (sym c.first_component.ensures ∙ c.in_ok-c.was) in
+    simp (length-take, length-drop) (omega (arith, f.1, f.2))
+
+pub loop-rest-preserved : goal.loop-rest-preserved
+loop-rest-preserved c =
+    let l = c.loop-rest in
+    let more : 0 < length l.rest.now = grind (arith, nat_tests) in
+    next _ c.requires _ _ _ l.invariant more _ _ (sym c.first_component.ensures ∙ c.in_ok-c.was)
 
 pub returns : goal.returns
 returns c =
-    let s = c.args.chars.now in
-    let l = c.loop-i in
-    done s c.requires l.list l.count l.i l.invariant c.loop-i-test.false
+    let l = c.loop-rest in
+    let more : length l.rest.now ≡ 0 = grind (arith, nat_tests) in
+    done _ c.requires _ _ _ l.invariant more

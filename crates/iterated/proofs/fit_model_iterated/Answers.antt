@@ -1,5 +1,7 @@
-use mathlib.Core.Path.{refl}
-use Rattle.solver.specs.Call.{inputs, buffers, sizes_of}
+use mathlib.Core.Path.{◌≡◌}
+use Rattle.std.proofs.Common.{rules}
+use Rattle.std.specs.Prelude.{Err}
+use Rattle.solver.specs.Call.{buffers, sizes_of}
 use Rattle.validate.proofs.Passed.{ready}
 use Rattle.iterated.proofs.Outcome.{refused, accepted}
 use Rattle.iterated.proofs.fit_model_iterated.Goals as goal
@@ -7,22 +9,21 @@ use Rattle.iterated.proofs.fit_model_iterated.Goals as goal
 pub fit-requires : goal.fit-requires
 fit-requires c =
     let a = c.args in
-    let l = inputs a.names.now a.fixed.now a.coefficients.now a.dh.now a.dd.now a.pier.now a.sheets.now a.settings in
     let b = buffers a.out.now a.change.now a.sigma.now a.diagnostics.now a.scratch.now in
-    (refl, ready l a.options (sizes_of b) _ c.in-Pass.is c.questions-asked.ensures)
+    ready a.input.now a.options (sizes_of b) _ c.in_ok-questions.was c.questions.ensures
 
-pub returns-in-No : goal.returns-in-No
-returns-in-No c =
+pub returns : goal.returns
+returns c =
     let a = c.args in
-    let l = inputs a.names.now a.fixed.now a.coefficients.now a.dh.now a.dd.now a.pier.now a.sheets.now a.settings in
     let b = buffers a.out.now a.change.now a.sigma.now a.diagnostics.now a.scratch.now in
-    let p = refused l a.sigma_by b a.options _ c.questions-asked.ensures _ c.in-No.is in
+    let p = accepted a.input.now a.sigma_by b a.options _ c.questions.ensures _ _ c.in_ok-questions.was c.fit.ensures in
     record { equal = p.0; demand = p.1 }
 
-pub returns-in-Pass : goal.returns-in-Pass
-returns-in-Pass c =
+pub returns-in_err-questions : goal.returns-in_err-questions
+returns-in_err-questions c =
     let a = c.args in
-    let l = inputs a.names.now a.fixed.now a.coefficients.now a.dh.now a.dd.now a.pier.now a.sheets.now a.settings in
     let b = buffers a.out.now a.change.now a.sigma.now a.diagnostics.now a.scratch.now in
-    let p = accepted l a.sigma_by b a.options _ c.questions-asked.ensures _ _ c.in-Pass.is c.fit.ensures in
-    record { equal = p.0; demand = p.1 }
+    let why = c.in_err-questions.field-0.0 in
+    let given : c.from_residual.result ≡ Err why = search rules in
+    let p = refused a.input.now a.sigma_by b a.options _ c.questions.ensures why c.in_err-questions.was in
+    rw given (record { equal = p.0; demand = p.1 })

@@ -1,4 +1,3 @@
-use mathlib.Core.Path.{◌≡◌}
 use native.Mathlib.Omega.{arith}
 use Rattle.sequence.proofs.Sums.{dot_part_none, dot_part_step}
 use Rattle.jacobi.proofs.sums.Goals as goal
@@ -19,9 +18,3 @@ loop-k-preserved c =
       dot_part_step w a.y a.y u.k u.beta u.invariant.2 (omega arith) (omega arith),
       dot_part_step w a.x a.y u.k u.gamma u.invariant.3 (omega arith) (omega arith),
     )
-
-pub returns : goal.returns
-returns c =
-    let u = c.loop-k in
-    let e : u.k ≡ c.args.n = omega arith in
-    rw (u.invariant.1, u.invariant.2, u.invariant.3, e)

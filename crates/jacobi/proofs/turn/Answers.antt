@@ -1,4 +1,3 @@
-use mathlib.Core.Path.{◌≡◌}
 use native.Mathlib.Omega.{arith}
 use lib.ListN.{length-set}
 use Rattle.jacobi.proofs.Laws.{turn-zero, turn_step}
@@ -7,13 +6,5 @@ use Rattle.jacobi.proofs.turn.Goals as goal
 pub loop-k-init : goal.loop-k-init
 loop-k-init c = (omega arith, turn-zero _ _ _ _ _, omega arith)
 
-pub bounds-w-y-in-loop-k : goal.bounds-w-y-in-loop-k
-bounds-w-y-in-loop-k c = simp length-set (omega arith)
-
 pub loop-k-preserved : goal.loop-k-preserved
 loop-k-preserved c = (omega arith, turn_step _ _ _ _ _ _ _ c.loop-k.invariant.1 (omega arith) (omega arith), simp length-set (omega arith))
-
-pub returns : goal.returns
-returns c =
-    let e : c.loop-k.k ≡ c.args.n = omega arith in
-    rw e at c.loop-k.invariant.1

@@ -13,21 +13,6 @@ loop-half-init c =
     let w = a.w.now in
     (refl, omega arith, turn-zero _ _ _ _ _, refl, dot_part_none w a.x a.x, dot_part_none w a.z a.z, dot_part_none w a.x a.z)
 
-pub bounds-w-i-in-loop-half-3 : goal.bounds-w-i-in-loop-half-3
-bounds-w-i-in-loop-half-3 c = simp length-set (omega arith)
-
-pub bounds-w-j-in-loop-half-2 : goal.bounds-w-j-in-loop-half-2
-bounds-w-j-in-loop-half-2 c = simp length-set (omega arith)
-
-pub bounds-w-j-in-loop-half-3 : goal.bounds-w-j-in-loop-half-3
-bounds-w-j-in-loop-half-3 c = simp length-set (omega arith)
-
-pub bounds-w-l-in-loop-half-2 : goal.bounds-w-l-in-loop-half-2
-bounds-w-l-in-loop-half-2 c = simp length-set (omega arith)
-
-pub bounds-w-l-in-loop-half-3 : goal.bounds-w-l-in-loop-half-3
-bounds-w-l-in-loop-half-3 c = simp length-set (omega arith)
-
 pub loop-half-preserved : goal.loop-half-preserved
 loop-half-preserved c =
     let u = c.loop-half in
@@ -62,12 +47,6 @@ returns-then-k-n c =
     let a = c.args in
     let e : 2 * u.half ≡ a.n = omega arith in
     let w = rw e at u.invariant.2 in record { turned = w; sums = products_are a.n a.x a.z _ u.w _ _ _ w (rw e at u.invariant.4) (rw e at u.invariant.5) (rw e at u.invariant.6) }
-
-pub bounds-w-y-2 : goal.bounds-w-y-2
-bounds-w-y-2 c = simp length-set (omega arith)
-
-pub shape_of-w : goal.shape_of-w
-shape_of-w c = simp length-set (omega arith)
 
 pub returns : goal.returns
 returns c =

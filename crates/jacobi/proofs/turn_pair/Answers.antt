@@ -1,5 +1,5 @@
 -- `jacobi::turn_pair` meets its contract. Assumes nothing.
-use Prim.Native.Nat.{ℕ, ◌+◌, ◌*◌, ◌<◌, ◌≤◌}
+use Prim.Native.Nat.{◌+◌, ◌*◌, ◌≤◌}
 use native.Mathlib.Omega.{arith}
 use lib.ListN.{length}
 use Rattle.sequence.proofs.Parts.{apart, inside}
@@ -7,46 +7,21 @@ use Rattle.jacobi.proofs.Laws.{pair_turned}
 use Rattle.jacobi.proofs.Pairs.{turned_pair, turned_sums}
 use Rattle.jacobi.proofs.turn_pair.Goals as goal
 
--- where the columns lie
-room : (p q m h : ℕ) → p < q → q < m → (p * h + h ≤ q * h) × (q * h + h ≤ m * h)
-room p q m h l g = inside p q m h l g
-
-pub overflow_mul-x : goal.overflow_mul-x
-overflow_mul-x c = omega (arith, room c.args.p c.args.q c.args.m c.args.h c.requires.0 c.requires.1)
-
-pub overflow_mul-y : goal.overflow_mul-y
-overflow_mul-y c = omega (arith, room c.args.p c.args.q c.args.m c.args.h c.requires.0 c.requires.1)
-
-pub turn-requires : goal.turn-requires
-turn-requires c = omega (arith, room c.args.p c.args.q c.args.m c.args.h c.requires.0 c.requires.1)
-
 pub returns-then-q-m : goal.returns-then-q-m
 returns-then-q-m c =
     let own = c.requires in record { turned = λ b. pair_turned _ _ _ _ _ _ _ own.4 own.5 _ _ c.tangent-t.ensures c.cosine-c.ensures _ c.turn.ensures b; next = λ l. absurd (omega arith) }
 
-pub overflow_add-y : goal.overflow_add-y
-overflow_add-y c = omega (arith, room c.args.p c.args.q c.args.m c.args.h c.requires.0 c.requires.1)
-
 pub turn_on-next-requires : goal.turn_on-next-requires
 turn_on-next-requires c =
     let a = c.args in
-    omega (arith, room c.args.p c.args.q c.args.m c.args.h c.requires.0 c.requires.1, apart (a.q + 1) a.m a.h (omega arith))
-
-pub overflow_add-x : goal.overflow_add-x
-overflow_add-x c = omega (arith, room c.args.p c.args.q c.args.m c.args.h c.requires.0 c.requires.1)
-
-pub overflow_add-y-2 : goal.overflow_add-y-2
-overflow_add-y-2 c = omega (arith, room c.args.p c.args.q c.args.m c.args.h c.requires.0 c.requires.1)
-
-pub turn-requires-2 : goal.turn-requires-2
-turn-requires-2 c = omega (arith, room c.args.p c.args.q c.args.m c.args.h c.requires.0 c.requires.1)
+    omega (arith, inside c.args.p c.args.q c.args.m c.args.h c.requires.0 c.requires.1, apart (a.q + 1) a.m a.h (omega arith))
 
 pub returns : goal.returns
 returns c =
     let a = c.args in
     let own = c.requires in
-    let below = (room c.args.p c.args.q c.args.m c.args.h c.requires.0 c.requires.1).0 in
-    let fits : a.q * a.h + a.h ≤ length a.w.now = omega (arith, room c.args.p c.args.q c.args.m c.args.h c.requires.0 c.requires.1) in
+    let below = (inside c.args.p c.args.q c.args.m c.args.h c.requires.0 c.requires.1).0 in
+    let fits : a.q * a.h + a.h ≤ length a.w.now = omega (arith, inside c.args.p c.args.q c.args.m c.args.h c.requires.0 c.requires.1) in
     let first = c.turn_on-next.ensures.turned in
     let sums = c.turn_on-next.ensures.sums in
     let second = c.turn-2.ensures in

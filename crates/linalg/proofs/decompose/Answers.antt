@@ -4,5 +4,5 @@ use Rattle.linalg.proofs.decompose.Goals as goal
 
 pub returns : goal.returns
 returns c =
-    decomposes _ _ _ c.args.w.now _ _ _ _ _ _ _ _ c.norms-norms.ensures c.scale_columns.ensures c.diagonals.ensures
-    c.factorise-f.ensures c.norms-values.ensures c.unit_columns.ensures
+    decomposes _ _ _ c.args.w.now _ _ _ _ _ _ _ _ c.norms-norms.ensures c.change_columns.ensures c.diagonals.ensures
+    c.factorise-made.ensures c.norms-values.ensures c.change_columns-2.ensures

@@ -1,6 +1,8 @@
 use native.Mathlib.Omega.{arith}
 use mathlib.Core.Path.{refl}
-use lib.ListN.{length, get_or}
+use lib.Ieee.{nan}
+use lib.ListN.{length, get_or, length-append}
+use Rattle.std.proofs.lemmas.Slice.Zip.{zip_turn, zip_end}
 use Rattle.float.specs.Float.{#0}
 use Rattle.sequence.proofs.Fills.{each_none, each_next, each_end}
 use Rattle.terms.specs.Slots.{slot}
@@ -9,25 +11,35 @@ use Rattle.lm_system.proofs.ByName.{rotational_by_kind}
 use Rattle.lm_system.proofs.largest.Invariants.{turn}
 use Rattle.lm_system.proofs.largest.Goals as goal
 
-pub loop-i-init : goal.loop-i-init
-loop-i-init c = (omega arith, each_none _ _)
+pub loop-j-init : goal.loop-j-init
+loop-j-init c = each_none _ _
 
-pub term_at-term-requires : goal.term_at-term-requires
-term_at-term-requires c = rw c.index.ensures (c.requires.0 c.loop-i.i (omega arith))
-
-pub loop-i-preserved : goal.loop-i-preserved
-loop-i-preserved c =
+pub term_at-requires : goal.term_at-requires
+term_at-requires c =
     let a = c.args in
-    let i = c.loop-i.i in
-    let known = rotational_by_kind (slot a.names.now (get_or a.free.now i 0)) (c.requires.1 i (omega arith)) in (
-      omega arith,
-      each_next i (turn a.names.now a.free.now a.x.now) #0 c.loop-i.most _ c.loop-i.invariant.1
-          (rw (c.larger-most.ensures, c.term_at-term.ensures, c.index.ensures, known) refl),
-    )
+    let u = c.loop-j in
+    let z =
+    zip_turn a.free.now a.x.now u.yielded _ _ c.next.new.self _ (cc) (cc) u.yielded_by _ c.in-Some.is c.next.ensures.steps in
+    rw (c.from.ensures, z.2 0) (c.requires.0 (length u.yielded) z.0)
+
+pub loop-j-preserved : goal.loop-j-preserved
+loop-j-preserved c =
+    let a = c.args in
+    let u = c.loop-j in
+    let i = length u.yielded in
+    let z =
+    zip_turn a.free.now a.x.now u.yielded _ _ c.next.new.self _ (cc) (cc) u.yielded_by _ c.in-Some.is c.next.ensures.steps in
+    let known = rotational_by_kind (slot a.names.now (get_or a.free.now i 0)) (c.requires.1 i z.0) in
+    rw length-append
+    (each_next i (turn a.names.now a.free.now a.x.now) #0 u.most _ u.invariant
+    (rw (c.larger-most.ensures, c.term_at.ensures, c.from.ensures, z.2 0, z.3 nan, known) refl))
 
 pub returns : goal.returns
 unfolding largest
 returns c =
-    let u = c.loop-i in
     let a = c.args in
-    each_end u.i (length a.free.now) (turn a.names.now a.free.now a.x.now) #0 u.most (omega arith) (omega arith) u.invariant.1
+    let u = c.loop-j in
+    let n =
+    zip_end a.free.now a.x.now u.yielded c.into_iter-j-iterator.result u.j-iterator c.next.new.self c.next.result (cc) (cc)
+    u.yielded_by c.in-None.is c.next.ensures.steps in
+    each_end (length u.yielded) (length a.free.now) (turn a.names.now a.free.now a.x.now) #0 u.most (omega arith) (omega arith) u.invariant

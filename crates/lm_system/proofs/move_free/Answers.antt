@@ -1,44 +1,31 @@
-use Prim.Native.Nat.{ℕ, ◌<◌}
 use native.Mathlib.Omega.{arith}
-use mathlib.Core.Path.{◌≡◌, refl}
-use mathlib.Core.List.{List}
-use lib.ListN.{length, get_or, length-set}
+use mathlib.Core.Path.{refl}
+use lib.Ieee.{nan}
+use lib.ListN.{length, length-append}
+use Rattle.std.proofs.lemmas.Slice.Zip.{zip_turn, zip_end}
 use Rattle.sequence.proofs.Fills.{each_none, each_next, each_end}
-use Rattle.design.specs.Counted.{Below}
 use Rattle.lm_system.specs.System.{moved}
 use Rattle.lm_system.proofs.move_free.Invariants.{turn}
 use Rattle.lm_system.proofs.move_free.Goals as goal
 
--- the index has a place
-below : (i n m k : ℕ) (free : List ℕ) → Below m free → i < length free → n ≡ m → k ≡ get_or free i 0 → k < n
-below i n m k free b l e q = rw (e, q) (b i l)
+pub loop-j-init : goal.loop-j-init
+loop-j-init c = each_none _ _
 
-pub loop-i-init : goal.loop-i-init
-loop-i-init c = (omega arith, refl, each_none _ _)
-
-pub offset_bounds-set-j : goal.offset_bounds-set-j
-offset_bounds-set-j c = omega (arith, below _ _ _ _ _ c.requires.1 (omega arith) c.loop-i.invariant.1 c.index-j.ensures)
-
-pub bounds-set-j : goal.bounds-set-j
-bounds-set-j c = below _ _ _ _ _ c.requires.1 (omega arith) c.loop-i.invariant.1 c.index-j.ensures
-
-pub offset_bounds-set-j-in-loop-i : goal.offset_bounds-set-j-in-loop-i
-offset_bounds-set-j-in-loop-i c = omega (arith, below _ _ _ _ _ c.requires.1 (omega arith) c.loop-i.invariant.1 c.index-j.ensures)
-
-pub bounds-set-j-in-loop-i : goal.bounds-set-j-in-loop-i
-bounds-set-j-in-loop-i c = below _ _ _ _ _ c.requires.1 (omega arith) c.loop-i.invariant.1 c.index-j.ensures
-
-pub loop-i-preserved : goal.loop-i-preserved
-loop-i-preserved c =
-    let a = c.args in (
-      omega arith,
-      simp length-set c.loop-i.invariant.1,
-      each_next c.loop-i.i (turn a.free.now a.x.now) a.set.now c.loop-i.set _ c.loop-i.invariant.2 (rw c.index-j.ensures refl),
-    )
+pub loop-j-preserved : goal.loop-j-preserved
+loop-j-preserved c =
+    let a = c.args in
+    let u = c.loop-j in
+    let z =
+    zip_turn a.free.now a.x.now u.yielded _ _ c.next.new.self _ (cc) (cc) u.yielded_by _ c.in-Some.is c.next.ensures.steps in
+    rw length-append
+    (each_next (length u.yielded) (turn a.free.now a.x.now) a.set.now u.set _ u.invariant (rw (c.from.ensures, z.2 0, z.3 nan) refl))
 
 pub returns : goal.returns
 unfolding moved
 returns c =
-    let u = c.loop-i in
     let a = c.args in
-    each_end u.i (length a.free.now) (turn a.free.now a.x.now) a.set.now u.set (omega arith) (omega arith) u.invariant.2
+    let u = c.loop-j in
+    let n =
+    zip_end a.free.now a.x.now u.yielded c.into_iter-j-iterator.result u.j-iterator c.next.new.self c.next.result (cc) (cc)
+    u.yielded_by c.in-None.is c.next.ensures.steps in
+    each_end (length u.yielded) (length a.free.now) (turn a.free.now a.x.now) a.set.now u.set (omega arith) (omega arith) u.invariant

@@ -1,9 +1,5 @@
--- `lm_system::move_free` meets its contract. The invariant: the first i free terms have moved. Assumes nothing.
-use Prim.Native.Nat.{ℕ, ◌-◌, ◌≤◌}
-use mathlib.Core.Path.{◌≡◌}
-use mathlib.Core.List.{List}
-use lib.ListN.{length, get_or, set}
-use lib.Ieee.{Float}
+-- The invariant of `lm_system::move_free`: the first free terms have moved. Assumes nothing.
+use Rattle.std.proofs.Common.{◌≡◌, ℕ, List, length, get_or, set, Float}
 use Rattle.float.specs.Float.{◌⊕◌}
 use Rattle.sequence.specs.Sequence.{at, each}
 use Rattle.lm_system.proofs.move_free.Given as goal
@@ -12,8 +8,5 @@ use Rattle.lm_system.proofs.move_free.Given as goal
 abbrev pub turn : List ℕ → List Float → ℕ → List Float → List Float
 turn free x i t = set t (get_or free i 0) (at t (get_or free i 0) ⊕ at x i)
 
-abbrev pub invariant-loop-i : goal.invariant-loop-i
-invariant-loop-i l = (l.i ≤ l.i-end) × (length l.set ≡ length l.initial.set) × (l.set ≡ each l.i 0 (turn l.free l.x) l.initial.set)
-
-abbrev pub decreases-loop-i : goal.decreases-loop-i
-decreases-loop-i l = l.i-end - l.i
+abbrev pub invariant-loop-j : goal.invariant-loop-j
+invariant-loop-j l = l.set ≡ each (length l.yielded) 0 (turn l.free l.x) l.initial.set

@@ -1,33 +1,22 @@
--- `lm_system::weighed_residuals` meets its contract. Assumes nothing.
 use Prim.Native.Nat.{◌*◌}
 use native.Mathlib.Omega.{arith}
-use mathlib.Core.Path.{◌≡◌}
-use mathlib.Core.Logic.{inl}
+use mathlib.Core.Path.{◌≡◌, ◌∙◌}
 use mathlib.Core.List.{[]}
 use lib.ListN.{length}
 use Rattle.design.specs.Design.{sights_at, sky_rows}
-use Rattle.lm_system.proofs.Laws.{weighed_both}
+use Rattle.lm_system.proofs.Laws.{copied, weighed_both}
 use Rattle.lm_system.proofs.weighed_residuals.Goals as goal
-
-pub copy-requires : goal.copy-requires
-copy-requires c = (omega arith, omega arith)
-
-pub scale_ha_rows-requires : goal.scale_ha_rows-requires
-scale_ha_rows-requires c = (c.requires.0, c.requires.1, omega arith)
-
-pub copy-requires-2 : goal.copy-requires-2
-copy-requires-2 c = (omega arith, omega arith)
-
-pub weigh-requires : goal.weigh-requires
-weigh-requires c = (inl (omega arith), omega arith, omega arith)
 
 pub returns : goal.returns
 returns c =
-    let a = c.args in
-    let n = length a.used.now in
+    let s = c.sights.inside in
+    let n = length s.used.now in
+    let long = rw (← c.sights.view_is) at c.requires in
     let r : 4 * n ≡ 2 * (2 * n) = omega arith in
+    let first = c.copy_within.ensures.after ∙ copied c.args.v.now 0 (2 * n) (2 * n) (2 * n) (omega arith) (omega arith) (omega arith) in
+    let then = c.copy_within-2.ensures.after ∙ copied _ (2 * n) (2 * (2 * n)) (2 * (2 * n)) (2 * n) (omega arith) (omega arith) (omega arith) in
     let p =
-    weighed_both (sky_rows (sights_at [] a.sheets.now a.used.now)) a.k (2 * n) (2 * (2 * n)) a.v.now c.copy.new.w
-    c.scale_ha_rows.new.b c.copy-2.new.w _ (omega arith) (omega arith) c.copy.ensures
-    c.scale_ha_rows.auto.b c.scale_ha_rows.ensures c.copy-2.ensures c.weigh.ensures in
-    record { sky = rw r p.0; b = rw r p.1 }
+    weighed_both (sky_rows (sights_at [] s.sheets.now s.used.now)) c.args.k (2 * n) (2 * (2 * n)) c.args.v.now c.copy_within.new.self
+    c.scale_ha_rows.new.b c.copy_within-2.new.self _ (omega arith) (omega arith) first c.scale_ha_rows.auto.b c.scale_ha_rows.ensures then
+    c.weigh.ensures in
+    rw (← c.sights.view_is) (record { sky = rw r p.0; b = rw r p.1 })

@@ -1,41 +1,35 @@
+use Prim.Native.Nat.{◌+◌, ◌*◌, ◌≤◌}
 use native.Mathlib.Omega.{arith}
 use mathlib.Core.Path.{◌≡◌, refl, ap, ◌∙◌}
-use lib.ListN.{length-set}
-use Rattle.sequence.proofs.Concat.{over_none, over_end}
-use Rattle.stats.specs.Stats.{sqrt}
-use Rattle.outcome.proofs.Diagnostics.{diagnostic_numbers_next}
+use lib.Ieee.{nan}
+use Rattle.std.specs.Iterator.Adapters.{enumerate_source}
+use Rattle.std.specs.Slice.Iter.{chunks_exact_rest}
+use lib.ListN.{length, length-append, length-take}
+use Rattle.outcome.proofs.Over.{over_none}
+use Rattle.outcome.proofs.Numbered.{numbered_turn}
+use Rattle.outcome.proofs.Diagnostics.{diagnostic_numbers_next, diagnostic_given}
 use Rattle.outcome.proofs.compute_diagnostics.Invariants.{numbers}
 use Rattle.outcome.proofs.compute_diagnostics.Goals as goal
 
 pub loop-i-init : goal.loop-i-init
-loop-i-init c = (omega arith, refl, c.sqrt-s.ensures ∙ ap sqrt c.variance.ensures, over_none _ 3 (λ i. refl) _)
-
-pub leverage-l_ha-requires : goal.leverage-l_ha-requires
-leverage-l_ha-requires c = (c.requires.0, omega arith)
-
-pub leverage-l_dec-requires : goal.leverage-l_dec-requires
-leverage-l_dec-requires c = (c.requires.0, omega arith)
-
-pub bounds-out-i-in-loop-i : goal.bounds-out-i-in-loop-i
-bounds-out-i-in-loop-i c = simp length-set (omega arith)
-
-pub bounds-out-i-in-loop-i-2 : goal.bounds-out-i-in-loop-i-2
-bounds-out-i-in-loop-i-2 c = simp length-set (omega arith)
+loop-i-init c = over_none _ 3 (λ i. refl) _
 
 pub loop-i-preserved : goal.loop-i-preserved
 loop-i-preserved c =
-    let u = c.loop-i in
     let a = c.args in
-    let f = numbers a.u.now a.h a.o.now a.inv_s.now a.r.now a.dof in
-    let is : c.diagnostic-d.result ≡ f u.i = c.diagnostic-d.ensures ∙ rw (c.leverage-l_dec.ensures, c.leverage-l_ha.ensures, u.invariant.2) refl in (
-      omega arith,
-      simp length-set u.invariant.1,
-      u.invariant.2,
-      diagnostic_numbers_next f u.i a.out.now u.out c.diagnostic-d.result (omega (arith, c.requires.5)) u.invariant.3 is,
-    )
-
-pub returns : goal.returns
-returns c =
     let u = c.loop-i in
-    let a = c.args in
-    over_end _ 3 (λ i. refl) u.i a.n a.out.now u.out (omega arith) (omega arith) u.invariant.3
+    let items = c.into_iter-i-iterator in
+    let first =
+    ap (λ z. chunks_exact_rest (enumerate_source z)) items.ensures.into_iter_gives ∙ ap chunks_exact_rest c.enumerate-i-items.ensures.source
+    ∙ c.chunks_exact.ensures.rest in
+    let z =
+    numbered_turn _ u.yielded items.result u.i-iterator c.next.new.self c.next.result first (cc) (cc) u.yielded_by _ c.in-Some.is
+    c.next.ensures.steps in
+    let f = numbers a.solved.now a.k a.n a.m a.dof a.w.now in
+    let is : c.diagnostic-d.result ≡ f (length u.yielded) =
+    diagnostic_given a.w.now _ _ _ _ _ _ _ c.in-Some.i (length u.yielded) a.dof _ _ _ _ _ _ _ z.0 c.sqrt-s.ensures c.variance.ensures (z.3 nan) (z.4 nan)
+    c.leverage.ensures c.leverage-in-loop-i.ensures c.diagnostic-d.ensures in
+    let within = simp length-take at z.2 in
+    let room : 3 * length u.yielded + 3 ≤ length a.out.now = omega (arith, within, c.requires.sizes.5) in
+    let next = diagnostic_numbers_next f c.in-Some.i (length u.yielded) a.out.now u.out c.diagnostic-d.result z.0 room u.invariant is in
+    rw (c.copy_from_slice.ensures.after, length-append) next

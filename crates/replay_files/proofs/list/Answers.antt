@@ -5,7 +5,7 @@ use Rattle.pmf.proofs.Theorems.{within}
 use Rattle.replay_files.proofs.list.Goals as goal
 
 pub slice_bounds-text-end : goal.slice_bounds-text-end
-slice_bounds-text-end c = within _ _ c.list-k.ensures
+slice_bounds-text-end g c = within _ _ c.list-k.ensures
 
 pub slice_bounds-count-end : goal.slice_bounds-count-end
-slice_bounds-count-end c = sym (length-take-le _ _ (within _ _ c.list-k.ensures))
+slice_bounds-count-end g c = sym (length-take-le _ _ (within _ _ c.list-k.ensures))

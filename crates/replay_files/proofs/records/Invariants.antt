@@ -1,11 +1,6 @@
--- `records` is safe and ends: the measure is the number of turns that are left. Assumes nothing.
-use Prim.Native.Nat.{◌≤◌}
-use mathlib.Core.Path.{◌≡◌}
-use lib.ListN.{length}
+-- `records`: the base has at most 40,000 bytes. Assumes nothing.
+use Rattle.std.proofs.Common.{◌≤◌}
 use Rattle.replay_files.proofs.records.Given as goal
 
-abbrev pub invariant-loop-turns : goal.invariant-loop-turns
-invariant-loop-turns l = (length l.file ≡ length l.initial.file) × (l.n ≤ 40000)
-
-abbrev pub decreases-loop-turns : goal.decreases-loop-turns
-decreases-loop-turns l = l.turns
+abbrev pub invariant-loop : goal.invariant-loop
+invariant-loop g l = l.n ≤ 40000

@@ -1,19 +1,13 @@
-use mathlib.Core.Path.{refl}
-use Rattle.sequence.proofs.Sums.{dot_none, dot-step, dot_end}
-use native.Mathlib.Omega.{arith}
+-- `sequence::sum_squares` meets its contract. Assumes nothing.
+use Rattle.std.proofs.Common.{rules, ◌≡◌, ◌∙◌, fold}
+use Rattle.std.proofs.lemmas.Iterator.{YieldsList-from_slice}
+use Rattle.std.proofs.lemmas.Iterator.Consumers.{fold_from_yields_List}
+use Rattle.float.specs.Float.{#0, ◌⊕◌, ◌⊗◌}
+use Rattle.sequence.proofs.Folds.{fold-dot}
 use Rattle.sequence.proofs.sum_squares.Goals as goal
-
-pub loop-k-init : goal.loop-k-init
-loop-k-init c = (refl, omega arith, (let r = c.args.r.now in dot_none r r))
-
-pub loop-k-preserved : goal.loop-k-preserved
-loop-k-preserved c =
-    let u = c.loop-k in
-    let r = c.args.r.now in
-    (u.invariant.0, omega arith, dot-step r r u.k u.t _ u.invariant.2 refl (omega arith) (omega arith))
 
 pub returns : goal.returns
 returns c =
-    let u = c.loop-k in
-    let r = c.args.r.now in
-    dot_end r r u.k u.t (omega arith) (omega arith) u.invariant.2
+    let folds : c.fold.result ≡ fold (λ t x. t ⊕ x ⊗ x) #0 c.args.r.now =
+    fold_from_yields_List _ (λ t x. t ⊕ x ⊗ x) #0 _ c.fold.ensures.ran (YieldsList-from_slice c.args.r.now (search rules)) (λ t x b q k. search rules) in
+    folds ∙ fold-dot c.args.r.now

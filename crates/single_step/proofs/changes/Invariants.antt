@@ -1,5 +1,5 @@
--- `single_step::changes` meets its contract. The invariant: the changes of the first i free terms are set. Assumes nothing.
-use Prim.Native.Nat.{ℕ, ◌-◌, ◌≤◌}
+-- `single_step::changes` meets its contract. The invariant: the changes of the first free terms are set. Assumes nothing.
+use Prim.Native.Nat.{ℕ}
 use mathlib.Core.Path.{◌≡◌}
 use mathlib.Core.List.{List}
 use lib.ListN.{length, get_or, set}
@@ -11,8 +11,5 @@ use Rattle.single_step.proofs.changes.Given as goal
 abbrev pub turn : List ℕ → List Float → ℕ → List Float → List Float
 turn free x i t = set t (get_or free i 0) (at x i)
 
-abbrev pub invariant-loop-i : goal.invariant-loop-i
-invariant-loop-i l = (l.i ≤ l.i-end) × (length l.change ≡ length l.initial.change) × (l.change ≡ each l.i 0 (turn l.free l.x) l.initial.change)
-
-abbrev pub decreases-loop-i : goal.decreases-loop-i
-decreases-loop-i l = l.i-end - l.i
+abbrev pub invariant-loop-j : goal.invariant-loop-j
+invariant-loop-j l = l.change ≡ each (length l.yielded) 0 (turn l.free l.x) l.initial.change

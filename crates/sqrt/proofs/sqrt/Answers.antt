@@ -6,17 +6,14 @@ use Rattle.sqrt.specs.Sqrt as Def
 use Rattle.float.proofs.Bits.{no_nan, bits_pos, no_nan_bits}
 use Rattle.sqrt.proofs.Special.{at_nan, at_zero, at_negative, at_infinity}
 use Rattle.sqrt.proofs.sqrt.Goals as goal
-use Rattle.sqrt.proofs.sqrt.Goals.{Start}
+use Rattle.sqrt.proofs.sqrt.Goals.{Start, then-x-via-then-x, then-x-via-else-x+then-x-2}
 
 -- what owning an `f64` tells: the format holds it
 held : (c : Start) → T (fits binary64 c.args.x)
 held c = subst T (sym c.well_formed.0.1) tt
 
 pub returns-then-x : goal.returns-then-x
-returns-then-x c = at_nan c.args.x c.if-x.true
-
-pub returns-then-x-2 : goal.returns-then-x-2
-returns-then-x-2 c = at_zero c.args.x c.if-x-2.true
+returns-then-x c = elim c.then-x.branch [ then-x-via-then-x w ↦ at_nan c.args.x w.if-x.true | then-x-via-else-x+then-x-2 w ↦ at_zero c.args.x w.if-x-2.true ]
 
 pub returns-then-x-3 : goal.returns-then-x-3
 returns-then-x-3 c = at_negative c.args.x c.if-x-3.true

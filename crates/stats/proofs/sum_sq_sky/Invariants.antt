@@ -1,5 +1,5 @@
--- `stats::sum_sq_sky` meets its contract. The invariant: the sum is that of the first i stars. Assumes nothing.
-use Prim.Native.Nat.{ℕ, ◌-◌, ◌≤◌}
+-- `stats::sum_sq_sky` meets its contract. The invariant: the sum is that of the stars so far. Assumes nothing.
+use Prim.Native.Nat.{ℕ}
 use mathlib.Core.Path.{◌≡◌}
 use mathlib.Core.List.{List, []}
 use lib.ListN.{length}
@@ -13,8 +13,5 @@ use Rattle.stats.proofs.sum_sq_sky.Given as goal
 abbrev pub term : List Float → List ℕ → List Float → ℕ → Float
 term sheets used r = sky_square (sky_rows (sights_at [] sheets used) r)
 
-abbrev pub invariant-loop-i : goal.invariant-loop-i
-invariant-loop-i l = (l.i-end ≡ length l.used) × (l.i ≤ l.i-end) × (l.sum ≡ sum_to l.i (term l.sheets l.used l.r))
-
-abbrev pub decreases-loop-i : goal.decreases-loop-i
-decreases-loop-i l = l.i-end - l.i
+abbrev pub invariant-loop-star : goal.invariant-loop-star
+invariant-loop-star l = l.sum ≡ sum_to (length l.yielded) (term l.sheets l.used l.r)

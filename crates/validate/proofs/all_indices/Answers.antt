@@ -1,21 +1,21 @@
-use mathlib.Core.Path.{refl}
-use lib.ListN.{length-set}
+use mathlib.Core.Path.{◌≡◌, refl, ap, ◌∙◌}
+use mathlib.Core.List.{◌++◌}
+use lib.ListN.{length, take, drop}
+use lib.Seq.{length-take-le}
 use native.Mathlib.Omega.{arith}
-use Rattle.sequence.specs.Sequence.{filled}
-use Rattle.sequence.proofs.Fills.{filled_none, filled_end, stored}
+use Rattle.sequence.proofs.Fills.{filling_start, filling_next, filling_end, filled_all}
 use Rattle.validate.proofs.all_indices.Goals as goal
 
 pub loop-i-init : goal.loop-i-init
-loop-i-init c = (omega arith, refl, filled_none _ _)
+loop-i-init c = filling_start
 
 pub loop-i-preserved : goal.loop-i-preserved
 loop-i-preserved c =
-    let u = c.loop-i in
-    (omega arith, simp length-set u.invariant.1, stored _ u.i _ u.out u.i (omega arith) u.invariant.2 refl)
+    let e : length (take c.args.n c.args.out.now) ≡ c.args.n = length-take-le _ _ c.requires.1 in
+    filling_next c.loop-i.invariant (omega arith) (omega arith) refl
 
 pub returns : goal.returns
-unfolding filled
 returns c =
-    let u = c.loop-i in
-    let a = c.args in
-    filled_end (λ i. i) u.i a.n a.out.now u.out (omega arith) (omega arith) u.invariant.2
+    let e : length (take c.args.n c.args.out.now) ≡ c.args.n = length-take-le _ _ c.requires.1 in
+    ap (λ s. s ++ drop c.args.n c.args.out.now)
+    (filling_end c.loop-i.invariant (omega arith) ∙ filled_all _ _ _ (omega arith))

@@ -1,39 +1,9 @@
 -- `model::PointingModel::predict_breakdown` meets its contract. Assumes nothing.
-use native.Mathlib.Omega.{arith}
-use mathlib.Core.Path.{◌≡◌, sym}
-use lib.ListN.{length}
-use lib.Seq.{length-take-le}
+use borrow.Author.Rules.{rules}
 use Rattle.model.specs.Correction.{breakdown_at}
 use Rattle.model.proofs.Laws.{many}
-use borrow.Author.Rules.{rules}
 use Rattle.model.proofs.PointingModel.predict_breakdown.Goals as goal
 
-pub returns-then-count-gt-MAX_TERMS : goal.returns-then-count-gt-MAX_TERMS
+pub returns-in_err-names : goal.returns-in_err-names
 unfolding breakdown_at
-returns-then-count-gt-MAX_TERMS c = rw (many c.args.self.count _ _ _ _ _ c.if-count-gt-MAX_TERMS.true, c.no_breakdown.ensures)
-
-pub slice_bounds-names-end : goal.slice_bounds-names-end
-slice_bounds-names-end c =
-    let long : length c.args.self.names ≡ 512 = search rules in
-    omega arith
-
-pub slice_bounds-breakdown_at-end : goal.slice_bounds-breakdown_at-end
-slice_bounds-breakdown_at-end c =
-    let long : length c.args.self.names ≡ 512 = search rules in
-    sym (length-take-le _ _ (omega arith))
-
-pub slice_bounds-coefficients-end : goal.slice_bounds-coefficients-end
-slice_bounds-coefficients-end c =
-    let long : length c.args.self.coefficients ≡ 32 = search rules in
-    omega arith
-
-pub slice_bounds-breakdown_at-end-2 : goal.slice_bounds-breakdown_at-end-2
-slice_bounds-breakdown_at-end-2 c =
-    let long : length c.args.self.coefficients ≡ 32 = search rules in
-    sym (length-take-le _ _ (omega arith))
-
-pub returns : goal.returns
-returns c =
-    let m = c.args.self in
-    let long : length m.coefficients ≡ 32 = search rules in
-    rw (length-take-le m.count m.coefficients (omega arith)) at c.breakdown_at.ensures
+returns-in_err-names c = rw (many _ _ _ _ _ _ c.in_err-names.ensures.err.0) (search rules)

@@ -1,13 +1,9 @@
 -- `model::point::corrected` meets its contract. The invariant: the sums of the first i contributions. Assumes nothing.
-use Prim.Native.Nat.{◌≤◌, ◌-◌}
 use mathlib.Core.Path.{◌≡◌}
-use Rattle.sequence.specs.Sequence.{sum_to}
-use Rattle.model.specs.Correction.{contribution}
+use Rattle.observation.specs.Observation.{pair_of, sign_of, side_of}
+use Rattle.model.specs.Correction.{corrected}
 use Rattle.model.proofs.point.corrected.Given as goal
 
 abbrev pub invariant-loop-i : goal.invariant-loop-i
-invariant-loop-i l = let f = contribution l.names l.coefficients l.sheet l.sin_lat l.cos_lat l.pier in
-    (l.i ≤ l.count) × (l.dh ≡ sum_to l.i (λ k. (f k).dh)) × (l.dd ≡ sum_to l.i (λ k. (f k).dd))
-
-abbrev pub decreases-loop-i : goal.decreases-loop-i
-decreases-loop-i l = l.count - l.i
+invariant-loop-i l =
+    pair_of l.dh l.dd ≡ corrected l.terms.names.now l.terms.coefficients.now l.i l.place.sheet.now l.place.sin_lat l.place.cos_lat (sign_of (side_of l.place.pier))

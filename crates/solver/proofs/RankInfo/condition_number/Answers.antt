@@ -1,10 +1,8 @@
 -- `RankInfo::condition_number` meets its contract. Assumes nothing.
 use mathlib.Core.Path.{refl}
-use Rattle.float.proofs.Zero.{infinity_is}
+use lib.Ieee.{of_bits}
 use Rattle.solver.proofs.RankInfo.condition_number.Goals as goal
 
-pub returns-then-self : goal.returns-then-self
-returns-then-self c = rw c.if-self.true refl
-
-pub returns : goal.returns
-returns c = rw c.if-self.false infinity_is
+pub returns-else-self : goal.returns-else-self
+unfolding of_bits
+returns-else-self c = rw c.if-self.false refl

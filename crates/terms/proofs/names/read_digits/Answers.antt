@@ -1,31 +1,34 @@
 use native.Mathlib.Omega.{arith}
-use Prim.Native.Nat.{◌-◌}
-use mathlib.Core.Path.{refl, ◌∙◌, ap, sym}
+use mathlib.Core.Path.{◌∙◌, sym}
 use lib.ListN.{get_or}
-use Rattle.terms.specs.Inside.{number_of}
-use Rattle.harmonic.proofs.Steps.{is_digit_lem, below, above}
 use Rattle.terms.proofs.Digits.{room, digits_next, digits_stop, digits_end}
 use Rattle.terms.proofs.names.read_digits.Goals as goal
 
-pub loop-i-init : goal.loop-i-init
-loop-i-init c = (omega arith, omega arith, refl)
-
-pub returns-then-d-lt48 : goal.returns-then-d-lt48
-returns-then-d-lt48 c = sym (ap number_of (c.loop-i.invariant.2 ∙ digits_stop c.args.s.now c.loop-i.v c.loop-i.i (omega arith) (below _ c.if-d-lt48.true)))
-
-pub returns-then-d-gt57 : goal.returns-then-d-gt57
-returns-then-d-gt57 c = sym (ap number_of (c.loop-i.invariant.2 ∙ digits_stop c.args.s.now c.loop-i.v c.loop-i.i (omega arith) (above _ c.if-d-gt57.true)))
+pub returns-then-not-is_ascii_digit : goal.returns-then-not-is_ascii_digit
+returns-then-not-is_ascii_digit c =
+    let l = c.loop-d in
+    sym (l.invariant.1 ∙ digits_stop _ _ l.d-index (omega arith) c.if-not-is_ascii_digit.ensures.value)
 
 pub overflow_mul-v : goal.overflow_mul-v
-overflow_mul-v c = let r = room c.loop-i.v c.loop-i.i (get_or c.args.s.now c.loop-i.i 0 - 48) c.loop-i.invariant.1 (omega arith) (omega arith) in omega arith
+overflow_mul-v c =
+    let l = c.loop-d in
+    let r = room l.v l.d-index (get_or c.args.s.now l.d-index 0) l.invariant.0 (omega arith) c.if-not-is_ascii_digit.ensures.value in
+    omega arith
 
 pub overflow_add-v : goal.overflow_add-v
-overflow_add-v c = let r = room c.loop-i.v c.loop-i.i (get_or c.args.s.now c.loop-i.i 0 - 48) c.loop-i.invariant.1 (omega arith) (omega arith) in omega arith
+overflow_add-v c =
+    let l = c.loop-d in
+    let r = room l.v l.d-index (get_or c.args.s.now l.d-index 0) l.invariant.0 (omega arith) c.if-not-is_ascii_digit.ensures.value in
+    omega arith
 
-pub loop-i-preserved : goal.loop-i-preserved
-loop-i-preserved c =
-    let r = room c.loop-i.v c.loop-i.i (get_or c.args.s.now c.loop-i.i 0 - 48) c.loop-i.invariant.1 (omega arith) (omega arith) in
-    (omega arith, r.0, c.loop-i.invariant.2 ∙ digits_next c.args.s.now c.loop-i.v c.loop-i.i (omega arith) (is_digit_lem _ c.if-d-lt48.false c.if-d-gt57.false))
+pub loop-d-preserved : goal.loop-d-preserved
+loop-d-preserved c =
+    let l = c.loop-d in
+    let digit = c.if-not-is_ascii_digit.ensures.value in
+    rw c.from.ensures
+    ((room l.v l.d-index (get_or c.args.s.now l.d-index 0) l.invariant.0 (omega arith) digit).0, l.invariant.1 ∙ digits_next c.args.s.now l.v l.d-index (omega arith) digit)
 
 pub returns : goal.returns
-returns c = sym (ap number_of (c.loop-i.invariant.2 ∙ digits_end c.args.s.now c.loop-i.v c.loop-i.i c.loop-i-test.false))
+returns c =
+    let l = c.loop-d in
+    sym (l.invariant.1 ∙ digits_end _ _ l.d-index (omega arith))

@@ -1,8 +1,0 @@
--- `block` lends a part of the sheet. Assumes nothing.
-use mathlib.Core.Path.{sym}
-use lib.Seq.{length-take-le}
-use borrow.Author.Rules.{rules}
-use Rattle.replay_jacobians.proofs.block.Goals as goal
-
-pub slice_bounds-answers-end-2 : goal.slice_bounds-answers-end-2
-slice_bounds-answers-end-2 c = sym (length-take-le _ _ (search rules))

@@ -1,8 +1,0 @@
--- `run` lends a part of the names. Assumes nothing.
-use mathlib.Core.Path.{sym}
-use lib.Seq.{length-take-le}
-use borrow.Author.Rules.{rules}
-use Rattle.replay_jacobians.proofs.run.Goals as goal
-
-pub slice_bounds-next-end-2 : goal.slice_bounds-next-end-2
-slice_bounds-next-end-2 c = sym (length-take-le _ _ (search rules))
