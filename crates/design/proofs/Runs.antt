@@ -19,6 +19,9 @@ abbrev pub with_terms : RunInputs → ℕ → RunInputs
 with_terms l m = run_inputs m l.names l.free l.dh l.dd l.pier l.sheets l.used l.settings
 
 module _ (l : RunInputs) where
+  pub counted_as : (m : ℕ) → m ≡ l.m → Counted l → Counted (with_terms l m)
+  counted_as m e c = rw e c
+
   -- ---- how many
 
   pub count_is : length l.used ≡ length (run_from l).stars

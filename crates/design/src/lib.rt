@@ -80,14 +80,6 @@ pub fn scale_ha_rows(sheets: &[f64], n: usize, used: &[u16], b: &mut [f64])
 
 // ---- numbers of one slice, by their places
 
-// The n numbers from y on become those from x on: the library's copy_within, with the one clause that callers cite.
-pub fn copy(w: &mut [f64], x: usize, y: usize, n: usize)
-    requires { (x + n ≤ y) × (y + n ≤ length w.old) }
-    ensures { w.new ≡ sets w.old y (part w.old x n) }
-{
-    w.copy_within(x..x + n, y);
-}
-
 // Each of the n numbers from x on becomes f of itself and of its partner among those from y on. It counts, since both runs lie in one slice and may overlap.
 fn combine<F: Fn(f64, f64) -> f64>(w: &mut [f64], x: usize, y: usize, n: usize, f: F)
     requires callable { F.IsAlwaysCallable f }
@@ -98,6 +90,14 @@ fn combine<F: Fn(f64, f64) -> f64>(w: &mut [f64], x: usize, y: usize, n: usize, 
     for k in 0..n {
         w[x + k] = f(w[x + k], w[y + k]);
     }
+}
+
+// The n numbers from y on become those from x on. By `combine`, since the library's copies call memmove here, which the archives for C do without.
+pub fn copy(w: &mut [f64], x: usize, y: usize, n: usize)
+    requires { (x + n ≤ y) × (y + n ≤ length w.old) }
+    ensures { w.new ≡ sets w.old y (part w.old x n) }
+{
+    combine(w, y, x, n, |_a, b| b);
 }
 
 // A number of a row whose residual is r, with the row's Huber weight.

@@ -55,12 +55,18 @@ fn coordinate_code(c: Coordinate) -> u8
     c as u8
 }
 
+// One pass over the components: with `map` for each of the three arrays a name took twice as long to read.
 fn component_codes(list: [HarmonicComponent; 7]) -> ComponentCodes
     ensures { result ≡ component_codes list }
 {
-    let functions = list.map(|c| function_code(c.func));
-    let coordinates = list.map(|c| coordinate_code(c.coord));
-    let frequencies = list.map(|c| c.frequency);
+    let mut functions = [0; 7];
+    let mut coordinates = [0; 7];
+    let mut frequencies = [0; 7];
+    for (i, c) in list.iter().enumerate() {
+        functions[i] = function_code(c.func);
+        coordinates[i] = coordinate_code(c.coord);
+        frequencies[i] = c.frequency;
+    }
     ComponentCodes {
         functions,
         coordinates,

@@ -16,7 +16,7 @@ use Rattle.linalg.specs.Linalg.{Solved}
 use Rattle.solver.specs.declared.IterOptions.{IterOptions}
 use Rattle.design.specs.Design.{RunInputs, run_from, sights_at, term_at, product, extracted, weighed_at}
 use Rattle.design.specs.Counted.{Counted}
-use Rattle.design.proofs.Runs.{count_is, rows_are}
+use Rattle.design.proofs.Runs.{with_terms, count_is, rows_are}
 use Rattle.outcome.specs.Scratch.{count_of, height_in, residuals_in, b_in, sky_in, solved_in, Fits}
 use Rattle.outcome.proofs.Front.{renewed, Renewed, front_part, front_above, front_long}
 use Rattle.outcome.proofs.Runs.{weighed_are}
@@ -26,6 +26,12 @@ use Rattle.iterated.specs.declared.Trial.{Trial}
 use Rattle.iterated.specs.declared.Trial.TheVariants.{Accepted, Rejected}
 use Rattle.iterated.specs.Iterated.{step_from, proposal, Tried, tried_to, trial_of, Report, lambda_limit, answered, leaves, trials, begin, lm_loop}
 use Rattle.iterated.specs.Iterated.{last_set, last_chi2, free_residuals, Left, Proposed, LastTried}
+
+-- ---- no residual knows how many terms there are
+
+pub residuals_same : (l : RunInputs) (m : ℕ) (s : List Float) → residuals_under (run_from (with_terms l m)) s ≡ residuals_under (run_from l) s
+unfolding residuals_under
+residuals_same l m s = refl
 
 -- ---- scratch whose front, k numbers, has come back as ys
 

@@ -182,6 +182,16 @@ fn changes(set: &[f64], start: &[f64], change: &mut [f64])
     }
 }
 
+// By hand, since copy_from_slice from one lent slice to another calls memmove, which the archives for C do without.
+fn copy(from: &[f64], to: &mut [f64])
+    requires { length to.old ≡ length from.now }
+    ensures { to.new ≡ from.now }
+{
+    for (j, x) in to.iter_mut().enumerate() {
+        *x = from[j];
+    }
+}
+
 // The fit of a run that needs so much of scratch: from the coefficients as lent through the loop and the last trial. The set in hand lies at the front of
 // the answer's coefficients. The buffers come one by one, here and below: a struct that lends them would owe in each contract that its references
 // stay the same.
@@ -206,7 +216,7 @@ fn fit_run(
 {
     let n = run.sights.used.len();
     let m = run.m;
-    out[..m].copy_from_slice(coefficients);
+    copy(coefficients, &mut out[..m]);
     let lm = run_lm_loop(run, options, &mut out[..m], &mut scratch[..need]);
     let last = apply_final_step(
         run,

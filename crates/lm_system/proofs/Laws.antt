@@ -4,9 +4,8 @@ use native.Mathlib.Nat.{add-sub_cancel_left}
 use native.Mathlib.Omega.{arith}
 use mathlib.Core.Path.{◌≡◌, refl, sym, ap, ◌∙◌}
 use mathlib.Core.List.{List, [], ◌++◌, map, zip_with}
-use Rattle.std.specs.List.{copy_within}
 use lib.ListN.{length, take, drop, length-append, length-drop}
-use lib.Seq.{sets, sets-eq, take_at, drop_at, drop-drop, length-take-le}
+use lib.Seq.{sets, take_at, drop_at, drop-drop, length-take-le}
 use lib.Ieee.{Float, binary64, sub}
 use Rattle.sequence.specs.Sequence.{at, part, Only}
 use Rattle.sequence.proofs.Parts.{length_part, part-take, part_sets_same}
@@ -35,11 +34,6 @@ back_within l ys i e x j k low room kept is h =
     ∙ ap (λ (r : List Float). part r j k) (drop_at (take i l) (ys ++ rest) i (length-take-le i l (omega arith)))
     ∙ sym (part-take (ys ++ rest) j k (length ys) (omega arith) (simp length-append (omega arith)))
     ∙ ap (λ (r : List Float). part r j k) (take_at ys rest (length ys) refl))
-
-pub copied : (v : List Float) (x e y n : ℕ) → e ≡ x + n → e ≤ y → y + n ≤ length v → copy_within v x e y ≡ sets v y (part v x n)
-copied v x e y n q h g =
-    let long : length (part v x n) ≡ n = length_part v x n (omega arith) in
-    simp (q, long, add-sub_cancel_left, sets-eq (part v x n) v y (omega arith))
 
 -- ---- of v, n numbers have been copied behind themselves (v₁), have come back as f of them (ys), been copied again (v₂) and weighed by that (v₃)
 

@@ -71,14 +71,14 @@ fn weighed_residuals(sights: &SightInput, k: f64, v: &mut [f64])
     let used = sights.used;
     let rows = 2 * used.len();
     let r = 2 * rows;
-    v.copy_within(0..rows, rows);
+    design::copy(v, 0, rows, rows);
     design::scale_ha_rows(
         sights.sheets,
         sights.pier.len(),
         used,
         &mut v[rows..rows + rows],
     );
-    v.copy_within(rows..r, r);
+    design::copy(v, rows, r, rows);
     design::weigh(v, rows, r, rows, k);
 }
 

@@ -30,11 +30,11 @@ use Rattle.terms.proofs.First.{ok_step, ok_same}
 use Rattle.terms.proofs.Same.{same_itself}
 use Rattle.model.specs.Slots.{no_numbers, no_flags, term_at, has_name, pier_at}
 use Rattle.model.specs.Model.{new_model, terms_asked, term_names, term_coefficients, model_asked, with_term, with_coefficients}
-use Rattle.model.specs.Model.{flagged, term_added, add_term, set_coefficients, FlagsAreNames}
+use Rattle.model.specs.Model.{flagged, term_added, adding, setting, add_term, set_coefficients, FlagsAreNames}
 use Rattle.model.specs.Correction.{corrected, correction_at, correction, broken_down, breakdown_at}
 use Rattle.model.specs.declared.PointingModel.{PointingModel}
 use Rattle.model.specs.declared.Breakdown.{Breakdown}
-use Rattle.model.proofs.Laws.{Passed, passed, passes, accepted, went_on, yes}
+use Rattle.model.proofs.Laws.{Passed, passed, passes, accepted, went_on, yes, given_on}
 use Rattle.model.proofs.Stored.{read_stored}
 
 -- ---- a model that passes every question
@@ -98,8 +98,8 @@ module _ (n : ℕ) (names : List ℕ) (coefficients sheet : List Float) (sinLat 
 
 module _ (m : PointingModel) (cs : List Float) (new : PointingModel) (ok : set_coefficients m cs ≡ Ok new) where
   set-answer : (model_asked m (eqb (length cs) m.count) (every is_finite cs) true ≡ Ok tt) × (flagged (with_coefficients m cs) ≡ new)
-  unfolding set_coefficients
-  set-answer = accepted _ _ _ ok
+  unfolding setting set_coefficients
+  set-answer = accepted _ _ _ (given_on m (setting m cs) new ok)
 
   set-facts : PassedWith m (eqb (length cs) m.count) (every is_finite cs)
   set-facts = passed_with m _ _ set-answer.0
@@ -141,7 +141,7 @@ module _ (m : PointingModel) (cs : List Float) (new : PointingModel) (ok : set_c
 -- a model that passes and has the term is left with its names' flags
 again : (m : PointingModel) (name : List ℕ) (t : Term) → model_asked m (eqb (length name) 16) true true ≡ Ok tt → read_term name ≡ Ok t
     → has_name m.names m.count t.name ≡ true → add_term m name ≡ Ok (flagged m)
-unfolding add_term
+unfolding adding add_term
 again m name t p r h = rw (p, r, h) refl
 
 -- so a name of a term that is there changes nothing else, however either is spelled, and also where the model is full
@@ -167,9 +167,9 @@ record Taken (m : PointingModel) (name : List ℕ) (new : PointingModel) : Type 
 module _ (m : PointingModel) (name : List ℕ) (bytes : length m.names ≡ 512) (numbers : length m.coefficients ≡ 32) (new : PointingModel)
     (ok : add_term m name ≡ Ok new) where
   taken : Taken m name new
-  unfolding add_term
+  unfolding adding add_term
   taken =
-      let one = went_on _ _ _ ok in
+      let one = went_on _ _ _ (given_on m (adding m name) new ok) in
       let two = went_on _ _ _ one.2 in
       record { asked = one.1; term = two.0; read = two.1; answer = two.2 }
 

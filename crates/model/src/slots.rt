@@ -3,19 +3,29 @@
 ghost use Rattle.std.specs.Prelude.{◌≡◌, ◌*◌, ◌≤◌, ◌+◌, length};
 ghost use Rattle.limits.specs.Limits.{max_terms, slot_bytes};
 ghost use Rattle.sequence.specs.Sequence.{table};
-ghost use Rattle.terms.specs.Names.{same};
+ghost use Rattle.terms.specs.Names.{same, read_term};
+ghost use Rattle.terms.specs.Slots.{slot};
 ghost use Rattle.model.specs.Slots.{term_at, has_name, pier_at};
 
 use limits::SLOT;
+use refusal::Refusal;
 use terms::Term;
+
+// What slot i is read as.
+pub fn read_at(names: &[u8], i: usize) -> Result<Term, Refusal>
+    requires { slot_bytes * (i + 1) ≤ length names.now }
+    ensures { result ≡ read_term (slot names.now i) }
+{
+    let start = SLOT * i;
+    terms::read_term(&names[start..start + SLOT])
+}
 
 // The term of slot i; a blank one where the slot is not read. Not design's: the theorems here speak of `term_at` of specs/Slots.antt.
 pub fn term_at(names: &[u8], i: usize) -> Term
     requires { slot_bytes * (i + 1) ≤ length names.now }
     ensures { result ≡ term_at names.now i }
 {
-    let start = SLOT * i;
-    terms::read_term(&names[start..start + SLOT]).unwrap_or(Term::blank())
+    read_at(names, i).unwrap_or(Term::blank())
 }
 
 // Whether the term of slot i has a stored name.

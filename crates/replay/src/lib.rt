@@ -3,7 +3,6 @@
 
 ghost use Rattle.std.specs.Prelude.{◌≡◌, ◌≤◌, length};
 
-use std::io;
 use std::io::{Read, Write};
 
 // Stands behind the last record. No record begins with it.
@@ -152,6 +151,23 @@ pub fn more(n: &mut u64) {
     *n = n.wrapping_add(1);
 }
 
+// Writes text. Where a write fails, the rest of the text is left out, and what follows is written all the same, here and below.
+pub fn write(output: &mut impl Write, text: &[u8]) {
+    let _ = output.write_all(text);
+}
+
+// A space and a number.
+pub fn number(output: &mut impl Write, n: u64) {
+    let _ = write!(output, " {n}");
+}
+
+// A label and a number on a line.
+pub fn line(output: &mut impl Write, label: &[u8], n: u64) {
+    write(output, label);
+    number(output, n);
+    write(output, b"\n");
+}
+
 // How often each question refused, by its number.
 #[derive(Clone, Copy)]
 pub struct Refused(pub [u64; 16]);
@@ -167,17 +183,18 @@ impl Refused {
     }
 
     // A question's number and how often it refused, on a line.
-    pub fn report(&self, output: &mut impl Write, question: u8) -> io::Result<()> {
-        let n = self.0[usize::from(question % 16)];
-        writeln!(output, "refused {question} {n}")
+    pub fn report(&self, output: &mut impl Write, question: u8) {
+        write(output, b"refused");
+        number(output, u64::from(question));
+        number(output, self.0[usize::from(question % 16)]);
+        write(output, b"\n");
     }
 
     // The same of each of these questions.
-    pub fn report_all(&self, output: &mut impl Write, questions: &[u8]) -> io::Result<()> {
+    pub fn report_all(&self, output: &mut impl Write, questions: &[u8]) {
         for question in questions {
-            self.report(output, *question)?;
+            self.report(output, *question);
         }
-        Ok(())
     }
 }
 

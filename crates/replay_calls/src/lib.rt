@@ -5,10 +5,9 @@
 ghost use Rattle.std.specs.Prelude.{◌≡◌, ◌*◌, ◌≤◌, length};
 
 use refusal::Refusal;
-use replay::{Ahead, Held, Refused, more, room};
+use replay::{Ahead, Held, Refused, line, more, room};
 use solver::input::FitInput;
 use solver::{FitResult, IterOptions, Settings, SigmaBy};
-use std::io;
 use std::io::{Read, Write};
 
 // The most sheets of the pool, and the most numbers that all lent sheets have: each lent sheet is read whole.
@@ -485,29 +484,28 @@ fn run(input: &mut impl Read) -> Tally {
 }
 
 // All counts. A single step isn't asked question 6, about the options, has no loop that may converge, and isn't robust.
-fn report(output: &mut impl Write, t: &Tally, iterated: bool) -> io::Result<()> {
-    writeln!(output, "fits {}", t.fits)?;
-    writeln!(output, "done {}", t.done)?;
+fn report(output: &mut impl Write, t: &Tally, iterated: bool) {
+    line(output, b"fits", t.fits);
+    line(output, b"done", t.done);
     for question in 1..14u8 {
         if question != 6 || iterated {
-            t.refused.report(output, question)?;
+            t.refused.report(output, question);
         }
     }
-    writeln!(output, "deficient {}", t.deficient)?;
-    writeln!(output, "by rows {}", t.by_rows)?;
-    writeln!(output, "not numbers {}", t.not_numbers)?;
-    writeln!(output, "thirty sweeps {}", t.thirty)?;
-    writeln!(output, "not settled {}", t.not_settled)?;
+    line(output, b"deficient", t.deficient);
+    line(output, b"by rows", t.by_rows);
+    line(output, b"not numbers", t.not_numbers);
+    line(output, b"thirty sweeps", t.thirty);
+    line(output, b"not settled", t.not_settled);
     if iterated {
-        writeln!(output, "converged {}", t.converged)?;
-        writeln!(output, "robust {}", t.robust)?;
+        line(output, b"converged", t.converged);
+        line(output, b"robust", t.robust);
     }
-    writeln!(output, "different {}", t.different)
+    line(output, b"different", t.different);
 }
 
 // Replays the input and prints the counts: those of a single step, or those of an iterated fit.
 pub fn replay(input: &mut impl Read, output: &mut impl Write, iterated: bool) {
     let t = run(input);
-    // A report is whole where its last line is: where a write fails, it isn't.
-    let _ = report(output, &t, iterated);
+    report(output, &t, iterated);
 }

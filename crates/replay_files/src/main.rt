@@ -2,11 +2,10 @@
 // the Rust made of it (oracle/README.md has the format); the counts and the number of listings that differ are written out.
 #![tactic(auto)]
 
-ghost use Rattle.std.specs.Prelude.{◌≡◌, ◌+◌, ◌≤◌, length};
+ghost use Rattle.std.specs.Prelude.{◌≡◌, ◌+◌, ◌<◌, ◌≤◌, length};
 
 use listing::LISTING;
-use replay::{Ahead, Refused, more};
-use std::io;
+use replay::{Ahead, Refused, line, more};
 use std::io::{Read, Write};
 
 // The longest base, and room for 64 bytes behind it.
@@ -61,12 +60,15 @@ fn same_listing(input: &mut impl Read, listing: &[u8]) -> bool {
 }
 
 // The digits of a line as a number, the sixteens left out: a question's is below 16.
-// Byte by byte, as a line holds more than digits and `parse` takes a text of them alone.
-fn number(line: &[u8]) -> u8 {
-    line.iter().filter(|b| b.is_ascii_digit()).fold(
+// Byte by byte, as a line holds more than digits and `parse` takes a text of them alone. A byte counts 256, so that no sixteen is lost.
+fn number(line: &[u8]) -> u8
+    ensures { result < 16 }
+{
+    let n = line.iter().filter(|b| b.is_ascii_digit()).fold(
         0u8,
         |n, b| n.wrapping_mul(10).wrapping_add(b.wrapping_sub(b'0')),
-    )
+    );
+    n % 16
 }
 
 // Counts a listing, and whether it is the oracle's. A refusal begins with `no`, a fit with `fit`.
@@ -151,20 +153,19 @@ fn records(input: &mut impl Read, file: &mut [u8]) -> Tally
     t
 }
 
-fn report(output: &mut impl Write, t: &Tally) -> io::Result<()> {
-    writeln!(output, "files {}", t.files)?;
-    writeln!(output, "fits {}", t.fits)?;
+fn report(output: &mut impl Write, t: &Tally) {
+    line(output, b"files", t.files);
+    line(output, b"fits", t.fits);
     for (question, n) in (0u8..).zip(&t.refused.0) {
         if *n > 0 {
-            writeln!(output, "refused {question} {n}")?;
+            t.refused.report(output, question);
         }
     }
-    writeln!(output, "different {}", t.different)
+    line(output, b"different", t.different);
 }
 
 fn main(rt: HostRuntime) {
     let mut file = replay::room::<u8, ROOM>(0);
     let t = records(&mut rt.stdin(), &mut file);
-    // A report is whole where its last line is: where a write fails, it isn't.
-    let _ = report(&mut rt.stdout(), &t);
+    report(&mut rt.stdout(), &t);
 }

@@ -6,8 +6,7 @@ ghost use Rattle.std.specs.Prelude.{◌≡◌, ◌≤◌, length};
 
 use observation::Pair;
 use refusal::Refusal;
-use replay::{Ahead, Place, Refused, more};
-use std::io;
+use replay::{Ahead, Place, Refused, line, more};
 use std::io::{Read, Write};
 
 // A slot's bytes: how many are in use, then 32.
@@ -97,16 +96,15 @@ fn run(input: &mut impl Read) -> Tally {
     blocks(input, &names[..n])
 }
 
-fn report(output: &mut impl Write, t: &Tally) -> io::Result<()> {
-    writeln!(output, "blocks {}", t.blocks)?;
-    writeln!(output, "pairs {}", t.pairs)?;
-    t.refused.report_all(output, &[2, 4, 5, 7, 8, 9, 10])?;
-    writeln!(output, "not numbers {}", t.not_numbers)?;
-    writeln!(output, "different {}", t.different)
+fn report(output: &mut impl Write, t: &Tally) {
+    line(output, b"blocks", t.blocks);
+    line(output, b"pairs", t.pairs);
+    t.refused.report_all(output, &[2, 4, 5, 7, 8, 9, 10]);
+    line(output, b"not numbers", t.not_numbers);
+    line(output, b"different", t.different);
 }
 
 fn main(rt: HostRuntime) {
     let t = run(&mut rt.stdin());
-    // A report is whole where its last line is: where a write fails, it isn't.
-    let _ = report(&mut rt.stdout(), &t);
+    report(&mut rt.stdout(), &t);
 }

@@ -5,11 +5,10 @@
 ghost use Rattle.std.specs.Prelude.{◌≡◌, ◌≤◌, length};
 
 use limits::{MAX_TERMS, SLOT};
-use model::{Breakdown, PointingModel};
+use model::{Breakdown, PointingModel, Unchanged};
 use observation::Pair;
 use refusal::Refusal;
-use replay::{Ahead, Place, Refused, more};
-use std::io;
+use replay::{Ahead, Place, Refused, line, more};
 use std::io::{Read, Write};
 
 #[derive(Clone, Copy)]
@@ -132,20 +131,23 @@ fn code(answer: Result<(), Refusal>) -> u8 {
     }
 }
 
-// A change of a model, held against the oracle's: a refused one leaves the model.
+// A change of a model, held against the oracle's: a refused one hands the model back.
 fn change(
     input: &mut impl Read,
     t: &mut Tally,
     m: &mut PointingModel,
-    answer: Result<PointingModel, Refusal>,
+    answer: Result<PointingModel, Unchanged>,
 ) {
     let before = *m;
-    *m = answer.unwrap_or(before);
+    let (model, told) = match answer {
+        Ok(new) => (new, Ok(())),
+        Err(back) => (back.model, Err(back.why)),
+    };
+    *m = model;
     let flags = before.pier_sensitive.iter().zip(&m.pier_sensitive);
     if flags.take(before.count).any(|(was, is)| *was != *is) {
         more(&mut t.mended);
     }
-    let told = answer.map(|_| ());
     let same_answer = replay::byte(input) == code(told);
     let same = same_model(input, &before, m);
     count(t, told, same_answer && same);
@@ -322,19 +324,17 @@ fn run(input: &mut impl Read) -> Tally {
     records(input, &sheets)
 }
 
-fn report(output: &mut impl Write, t: &Tally) -> io::Result<()> {
-    writeln!(output, "calls {}", t.calls)?;
-    writeln!(output, "models {}", t.models)?;
-    writeln!(output, "added {}", t.added)?;
-    writeln!(output, "there {}", t.there)?;
-    writeln!(output, "mended {}", t.mended)?;
-    t.refused
-        .report_all(output, &[1, 2, 4, 5, 7, 8, 9, 10, 14])?;
-    writeln!(output, "different {}", t.different)
+fn report(output: &mut impl Write, t: &Tally) {
+    line(output, b"calls", t.calls);
+    line(output, b"models", t.models);
+    line(output, b"added", t.added);
+    line(output, b"there", t.there);
+    line(output, b"mended", t.mended);
+    t.refused.report_all(output, &[1, 2, 4, 5, 7, 8, 9, 10, 14]);
+    line(output, b"different", t.different);
 }
 
 fn main(rt: HostRuntime) {
     let t = run(&mut rt.stdin());
-    // A report is whole where its last line is: where a write fails, it isn't.
-    let _ = report(&mut rt.stdout(), &t);
+    report(&mut rt.stdout(), &t);
 }

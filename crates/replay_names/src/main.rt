@@ -6,8 +6,7 @@ ghost use Rattle.std.specs.Prelude.{◌≤◌, length};
 
 use harmonic::{Components, HarmonicComponent};
 use refusal::Refusal;
-use replay::{Ahead, Refused, more};
-use std::io;
+use replay::{Ahead, Refused, line, more};
 use std::io::{Read, Write};
 use terms::{Term, TermKind};
 
@@ -130,18 +129,20 @@ fn records(input: &mut impl Read) -> Tally {
     t
 }
 
-fn report(output: &mut impl Write, t: &Tally) -> io::Result<()> {
-    let [four, five, six] = t.short;
-    writeln!(output, "names {}", t.names)?;
-    writeln!(output, "read {}", t.read)?;
-    writeln!(output, "pier sensitive {}", t.sensitive)?;
-    t.refused.report_all(output, &[2, 7, 8, 9, 10])?;
-    writeln!(output, "harmonics of 4, 5 and 6 bytes {four} {five} {six}")?;
-    writeln!(output, "different {}", t.different)
+fn report(output: &mut impl Write, t: &Tally) {
+    line(output, b"names", t.names);
+    line(output, b"read", t.read);
+    line(output, b"pier sensitive", t.sensitive);
+    t.refused.report_all(output, &[2, 7, 8, 9, 10]);
+    replay::write(output, b"harmonics of 4, 5 and 6 bytes");
+    for n in t.short {
+        replay::number(output, n);
+    }
+    replay::write(output, b"\n");
+    line(output, b"different", t.different);
 }
 
 fn main(rt: HostRuntime) {
     let t = records(&mut rt.stdin());
-    // A report is whole where its last line is: where a write fails, it isn't.
-    let _ = report(&mut rt.stdout(), &t);
+    report(&mut rt.stdout(), &t);
 }

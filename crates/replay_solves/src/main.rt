@@ -7,8 +7,7 @@ ghost use Rattle.linalg.specs.Linalg.{Placed};
 ghost use Rattle.replay_solves.specs.Systems.{Sized, Ordered};
 
 use linalg::SolveOutcome;
-use replay::{Ahead, Held, more, read_doubles};
-use std::io;
+use replay::{Ahead, Held, line, more, read_doubles};
 use std::io::{Read, Write};
 
 #[derive(Clone, Copy)]
@@ -164,18 +163,17 @@ fn records(input: &mut impl Read, w: &mut [f64]) -> Tally
     t
 }
 
-fn report(output: &mut impl Write, t: &Tally) -> io::Result<()> {
-    writeln!(output, "solves {}", t.solves)?;
-    writeln!(output, "damped {}", t.damped)?;
-    writeln!(output, "deficient {}", t.deficient)?;
-    writeln!(output, "not numbers {}", t.not_numbers)?;
-    writeln!(output, "thirty sweeps {}", t.thirty)?;
-    writeln!(output, "different {}", t.different)
+fn report(output: &mut impl Write, t: &Tally) {
+    line(output, b"solves", t.solves);
+    line(output, b"damped", t.damped);
+    line(output, b"deficient", t.deficient);
+    line(output, b"not numbers", t.not_numbers);
+    line(output, b"thirty sweeps", t.thirty);
+    line(output, b"different", t.different);
 }
 
 fn main(rt: HostRuntime) {
     let mut w = replay::room::<f64, 10496>(0.0);
     let t = records(&mut rt.stdin(), &mut w);
-    // A report is whole where its last line is: where a write fails, it isn't.
-    let _ = report(&mut rt.stdout(), &t);
+    report(&mut rt.stdout(), &t);
 }

@@ -3,18 +3,19 @@ use Prim.Native.Nat.{ℕ, zero, suc, ◌+◌, ◌-◌, ◌≤◌, ◌<◌}
 use native.Mathlib.Omega.{arith}
 use mathlib.Core.Path.{◌≡◌, refl, ◌∙◌, ap, ap₂, sym}
 use mathlib.Core.Bool.{Bool, true, false, cond, ◌&&◌, and-false, not, true≢false}
-use mathlib.Core.List.{List, [], ◌∷◌, map}
-use lib.ListN.{length, take, drop, length-drop, length-map}
+use mathlib.Core.List.{List, [], ◌∷◌, ◌++◌, map, map-append}
+use lib.ListN.{length, take, drop, replicate, length-drop, length-map, take-append-drop}
 use lib.Seq.{take_all}
 use lib.Dec.{eqb}
-use borrow.Author.Tests.{ltb-false, lt-ltb, le-ltb, eq-eqb}
+use borrow.Author.Tests.{ltb-false, lt-ltb, le-ltb, eq-eqb, eqb-true}
 use Rattle.std.proofs.lemmas.List.Sums.{prefix_len-le-length}
 use Rattle.std.specs.Prelude.{Some, None, unwrap_or, position, IsAscii, MatchBool, ltb}
 use Rattle.std.specs.Str.{IsNotAscii}
 use Rattle.std.specs.List.{position_or_len, list_all}
 use Rattle.sequence.specs.Sequence.{every}
 use Rattle.std.proofs.lemmas.List.Recursion.{is_position_or_len}
-use Rattle.terms.specs.Names.{capital, name_of, well_formed, find, fixed_names, by_known, read_term}
+use Rattle.sequence.proofs.Tests.{left_of, right_of}
+use Rattle.terms.specs.Names.{capital, padded, name_of, well_formed, find, fixed_names, by_known, read_term}
 
 name_longer : (x : ℕ) (s : List ℕ) → length (name_of (x ∷ s)) ≡ cond (eqb x 0) 0 (1 + length (name_of s))
 unfolding name_of
@@ -108,6 +109,26 @@ take-map (suc n) (x ∷ s) = ap (λ u. capital x ∷ u) (take-map n s)
 
 pub capitals_long : (s full : List ℕ) → full ≡ map capital s → length full ≡ length s
 capitals_long s full e = ap length e ∙ length-map s capital
+
+-- zeros are a repeat of zero, and their capitals too
+zeros : (u : List ℕ) → every (λ b. eqb b 0) u ≡ true → map capital u ≡ replicate (length u) 0
+zeros [] e = refl
+zeros (b ∷ u) e =
+    let z = eqb-true b 0 (left_of (eqb b 0) (every (λ b. eqb b 0) u) e) in
+    ap₂ (λ (x : ℕ) (l : List ℕ). capital x ∷ l) z (zeros u (right_of (eqb b 0) (every (λ b. eqb b 0) u) e))
+
+-- the capitals of a well-formed slot are those of its name, with zeros behind
+pub clean : (s : List ℕ) (n : ℕ) (full : List ℕ) → n ≡ length (name_of s) → full ≡ map capital s → length s ≡ 16 → well_formed s ≡ true
+    → full ≡ padded (take n full)
+unfolding well_formed
+clean s n full is e sixteen well =
+    let m = length (name_of s) in
+    let none = right_of (ltb 0 m && every (λ b. ltb b 128) (name_of s)) (every (λ b. eqb b 0) (drop m s)) well in
+    let name : take n full ≡ map capital (name_of s) = ap₂ take is e ∙ take-map m s ∙ ap (map capital) (name_take s) in
+    let split : s ≡ name_of s ++ drop m s = sym (take-append-drop m s) ∙ ap (λ u. u ++ drop m s) (name_take s) in
+    let rest : length (drop m s) ≡ 16 - length (map capital (name_of s)) = rw (length-drop, length-map, sixteen) in
+    e ∙ ap (map capital) split ∙ map-append capital (name_of s) (drop m s)
+    ∙ ap (λ u. map capital (name_of s) ++ u) (zeros (drop m s) none ∙ ap (λ k. replicate k 0) rest) ∙ ap padded (sym name)
 
 pub created : (s : List ℕ) (n : ℕ) (full : List ℕ) → n ≡ length (name_of s) → full ≡ map capital s → length s ≡ 16 → well_formed s ≡ true
     → by_known (take n full) (find fixed_names (take n full)) ≡ read_term s

@@ -1,11 +1,11 @@
 // What stands in a name slot, and which term it names. A name is a slice with a clause on its length and no type of its own,
-// since it is matched byte by byte.
+// since it is matched byte by byte; beside it goes the slot that a term stores, which each reading would make again.
 
 ghost use Rattle.std.specs.Prelude.{◌≡◌, ◌++◌, map, ◌≤◌, ◌<◌, length, None};
 ghost use Rattle.limits.specs.Limits.{slot_bytes};
 ghost use Rattle.harmonic.specs.Table.{ascii};
 ghost use Rattle.terms.specs.Names.{capital, padded, name_of, well_formed, named, fixed_names};
-ghost use Rattle.terms.specs.Names.{find, digits_from, unsigned, numbered, short_decimal, read_harmonic, by_known};
+ghost use Rattle.terms.specs.Names.{find, digits_from, unsigned, short_decimal, by_known};
 
 use crate::pier::pier_sensitive;
 use crate::{Term, TermKind};
@@ -56,16 +56,6 @@ pub fn capitals(slot: &[u8]) -> [u8; SLOT]
     let mut out = [0; SLOT];
     out.copy_from_slice(slot);
     out.make_ascii_uppercase();
-    out
-}
-
-// The name with zeros behind.
-fn padded(name: &[u8]) -> [u8; SLOT]
-    requires { length name.now ≤ slot_bytes }
-    ensures { result ≡ padded name.now }
-{
-    let mut out = [0; SLOT];
-    out[..name.len()].copy_from_slice(name);
     out
 }
 
@@ -142,54 +132,30 @@ fn txn_name(v: u8) -> [u8; SLOT]
     out
 }
 
-// TX and a number from 1 to 255.
-fn numbered_term(number: Option<usize>) -> Result<Term, Refusal>
-    ensures { result ≡ numbered number }
-{
-    match number {
-        Some(v @ 1..=255) => {
-            // `as` loses nothing by the pattern; try_from would have an arm that can't come
-            let v = v as u8;
-            Ok(named(TermKind::Equatorial(EquatorialTerm::TXN(v)), txn_name(v)))
-        }
-        _ => Err(Refusal::UnknownTerm),
-    }
-}
-
-// A name that begins with H.
-#[tactic(auto, unfolding(crate::specs::Names::read_harmonic))]
-fn read_harmonic(name: &[u8]) -> Result<Term, Refusal>
-    requires { length name.now ≤ slot_bytes }
-    ensures { result ≡ read_harmonic name.now }
-{
-    let Some(h) = harmonic::parse_harmonic(name) else {
-        return Err(Refusal::MalformedHarmonic);
-    };
-    Ok(named(TermKind::Harmonic(h), padded(name)))
-}
-
-// A name that is none of the fixed ones.
-#[tactic(auto, unfolding(crate::specs::Names::by_known))]
-fn other_term(name: &[u8]) -> Result<Term, Refusal>
-    requires { length name.now ≤ slot_bytes }
-    ensures { result ≡ by_known name.now None }
-{
-    match name {
-        [b'T', b'X', ..] => numbered_term(read_unsigned(&name[2..])),
-        [b'H', ..] => read_harmonic(name),
-        _ => Err(Refusal::UnknownTerm),
-    }
-}
-
-// The term that a name in capitals names.
-#[tactic(auto, unfolding(crate::specs::Names::by_known))]
-pub fn create_term(name: &[u8]) -> Result<Term, Refusal>
-    requires { length name.now ≤ slot_bytes }
+// The term that a name in capitals names; full is the name with zeros behind. One function for all: each that hands a whole term on copies it.
+#[tactic(auto, unfolding(crate::specs::Names::by_known, crate::specs::Names::read_harmonic))]
+pub fn create_term(name: &[u8], full: [u8; SLOT]) -> Result<Term, Refusal>
+    requires { (length name.now ≤ slot_bytes) × (full ≡ padded name.now) }
     ensures { result ≡ by_known name.now (find fixed_names name.now) }
 {
     match fixed_name(name) {
-        Some(Known::Equatorial(t)) => Ok(named(TermKind::Equatorial(t), padded(name))),
-        Some(Known::AltAz) => Err(Refusal::AltAzTerm),
-        None => other_term(name),
+        Some(Known::Equatorial(t)) => return Ok(named(TermKind::Equatorial(t), full)),
+        Some(Known::AltAz) => return Err(Refusal::AltAzTerm),
+        None => {}
+    }
+    match name {
+        [b'T', b'X', ..] => match read_unsigned(&name[2..]) {
+            Some(v @ 1..=255) => {
+                // `as` loses nothing by the pattern; try_from would have an arm that can't come
+                let v = v as u8;
+                Ok(named(TermKind::Equatorial(EquatorialTerm::TXN(v)), txn_name(v)))
+            }
+            _ => Err(Refusal::UnknownTerm),
+        },
+        [b'H', ..] => match harmonic::parse_harmonic(name) {
+            Some(h) => Ok(named(TermKind::Harmonic(h), full)),
+            None => Err(Refusal::MalformedHarmonic),
+        },
+        _ => Err(Refusal::UnknownTerm),
     }
 }

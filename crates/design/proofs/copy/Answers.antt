@@ -1,15 +1,15 @@
 -- `design::copy` meets its contract. Assumes nothing.
-use native.Mathlib.Nat.{add-sub_cancel_left}
+use mathlib.Core.Path.{sym, ap, ◌∙◌}
 use native.Mathlib.Omega.{arith}
-use mathlib.Core.Path.{sym, ◌∙◌}
-use lib.Seq.{sets-eq}
+use Rattle.std.proofs.Common.{rules}
+use lib.Seq.{sets}
 use Rattle.sequence.specs.Sequence.{part}
 use Rattle.sequence.proofs.Parts.{length_part}
+use Rattle.design.proofs.Lists.{zip_second}
 use Rattle.design.proofs.copy.Goals as goal
 
 pub returns : goal.returns
 returns c =
     let a = c.args in
-    let long = length_part a.w.now a.x a.n (omega arith) in
-    (rw (add-sub_cancel_left a.x a.n) at c.copy_within.ensures.after)
-    ∙ sym (rw long at (sets-eq (part a.w.now a.x a.n) a.w.now a.y (omega arith)))
+    let long = length_part a.w.now a.x a.n (omega arith) ∙ sym (length_part a.w.now a.y a.n (omega arith)) in
+    c.combine.ensures (λ x y. y) (search rules) ∙ ap (sets a.w.now a.y) (zip_second (part a.w.now a.y a.n) (part a.w.now a.x a.n) long)

@@ -46,7 +46,7 @@ finish-requires c =
     let q = rw (← c.run.view_is, ← c.run-inside.view_is) at c.requires in
     let loop = rw (← c.run.view_is, ← c.run-inside.view_is) at x.ensures in
     let last = rw (← c.run.view_is, ← c.run-inside.view_is) at y.ensures in
-    let t = wrote_all counted q.1 q.2 q.3 c.copy_from_slice.ensures.after c.copy_from_slice.auto.self x.auto.set y.auto.set x.auto.w y.auto.w in
+    let t = wrote_all counted q.1 q.2 q.3 c.copy.ensures c.copy.auto.to x.auto.set y.auto.set x.auto.w y.auto.w in
     let came = searched t _ _ _ _ loop.reported last in
     finish_ready _ _ c.args.sigma.now c.args.diagnostics.now y.result.solved _ (last_fits t) (solved_last t came) (last_in_order _ c.args.options _ _) q.5 q.6
 
@@ -60,7 +60,7 @@ returns c =
     let loop = rw (← c.run.view_is, ← c.run-inside.view_is) at x.ensures in
     let last = rw (← c.run.view_is, ← c.run-inside.view_is) at y.ensures in
     let e = c.finish.ensures in
-    let t = wrote_all counted q.1 q.2 q.3 c.copy_from_slice.ensures.after c.copy_from_slice.auto.self x.auto.set y.auto.set x.auto.w y.auto.w in
+    let t = wrote_all counted q.1 q.2 q.3 c.copy.ensures c.copy.auto.to x.auto.set y.auto.set x.auto.w y.auto.w in
     let came = searched t _ _ _ _ loop.reported last in
     rw (← c.run.view_is, ← c.run-inside.view_is)
     (run-fitted t came a.sigma_by a.change.now a.sigma.now a.diagnostics.now c.changes.new.change _ _ c.finish.new.w c.sky_of_sum-sky.result _
