@@ -3,6 +3,7 @@
 
 ghost use Rattle.std.specs.Prelude.{◌≡◌, ◌≤◌, length};
 
+use std::io;
 use std::io::{Read, Write};
 
 // Stands behind the last record. No record begins with it.
@@ -151,7 +152,7 @@ pub fn more(n: &mut u64) {
     *n = n.wrapping_add(1);
 }
 
-// Writes text. Where a write fails, the rest of the text is left out, and what follows is written all the same, here and below.
+// Writes text. Where a write fails, the rest of the text is left out, and what follows is written all the same; so in `number` and each `line`.
 pub fn write(output: &mut impl Write, text: &[u8]) {
     let _ = output.write_all(text);
 }
@@ -183,7 +184,7 @@ impl Refused {
     }
 
     // A question's number and how often it refused, on a line.
-    pub fn report(&self, output: &mut impl Write, question: u8) {
+    pub fn line(&self, output: &mut impl Write, question: u8) {
         write(output, b"refused");
         number(output, u64::from(question));
         number(output, self.0[usize::from(question % 16)]);
@@ -191,10 +192,24 @@ impl Refused {
     }
 
     // The same of each of these questions.
-    pub fn report_all(&self, output: &mut impl Write, questions: &[u8]) {
+    pub fn lines(&self, output: &mut impl Write, questions: &[u8]) {
         for question in questions {
-            self.report(output, *question);
+            self.line(output, *question);
         }
+    }
+
+    // The line of a question, for a caller that asks whether it was written: where a write fails, nothing follows, and its error is the answer.
+    pub fn report(&self, output: &mut impl Write, question: u8) -> io::Result<()> {
+        let n = self.0[usize::from(question % 16)];
+        writeln!(output, "refused {question} {n}")
+    }
+
+    // The same of each of these questions, up to the first write that fails.
+    pub fn report_all(&self, output: &mut impl Write, questions: &[u8]) -> io::Result<()> {
+        for question in questions {
+            self.report(output, *question)?;
+        }
+        Ok(())
     }
 }
 
@@ -216,5 +231,82 @@ impl Place {
             cos_lat,
             pier,
         }
+    }
+}
+
+#[cfg(test)]
+mod tests {
+    use super::*;
+    use std::io::Cursor;
+
+    // Holds what is written, but for the first write that comes where it holds `bad` bytes: that one fails.
+    #[derive(Drop)]
+    struct Torn {
+        held: Cursor<[u8; 40]>,
+        bad: Option<u64>,
+    }
+
+    impl Torn {
+        fn at(bad: Option<u64>) -> Torn {
+            Torn {
+                held: Cursor::new([0; 40]),
+                bad,
+            }
+        }
+
+        // Whether it holds this text and no more.
+        fn holds(&self, text: &[u8]) -> bool {
+            self.held.position() == text.len() as u64 && self.held.get_ref().starts_with(text)
+        }
+    }
+
+    impl Write for Torn {
+        fn write(&mut self, buf: &[u8]) -> io::Result<usize> {
+            if self.bad == Some(self.held.position()) {
+                self.bad = None;
+                return Err(io::Error::from(io::ErrorKind::BrokenPipe));
+            }
+            self.held.write(buf)
+        }
+
+        fn flush(&mut self) -> io::Result<()> {
+            Ok(())
+        }
+    }
+
+    fn refused() -> Refused {
+        let mut refused = Refused::none();
+        for question in [3, 14, 3] {
+            refused.count(question);
+        }
+        refused
+    }
+
+    #[test]
+    fn a_report_tells_of_its_write(rt: HostRuntime) {
+        let mut output = Torn::at(None);
+        assert!(rt; refused().report(&mut output, 14).is_ok());
+        assert!(rt; output.holds(b"refused 14 1\n"));
+        let mut torn = Torn::at(Some(0));
+        assert!(rt; refused().report(&mut torn, 14).is_err());
+        assert!(rt; torn.holds(b""));
+    }
+
+    #[test]
+    fn all_reports_end_at_a_failed_write(rt: HostRuntime) {
+        let mut output = Torn::at(None);
+        assert!(rt; refused().report_all(&mut output, &[3, 14, 5]).is_ok());
+        assert!(rt; output.holds(b"refused 3 2\nrefused 14 1\nrefused 5 0\n"));
+        let mut torn = Torn::at(Some(12));
+        assert!(rt; refused().report_all(&mut torn, &[3, 14, 5]).is_err());
+        assert!(rt; torn.holds(b"refused 3 2\n"));
+    }
+
+    // Each part is written by its own call, and only the part that fails is missing.
+    #[test]
+    fn lines_go_on_behind_a_failed_write(rt: HostRuntime) {
+        let mut torn = Torn::at(Some(12));
+        refused().lines(&mut torn, &[3, 14, 5]);
+        assert!(rt; torn.holds(b"refused 3 2\n 14 1\nrefused 5 0\n"));
     }
 }

@@ -489,7 +489,7 @@ fn report(output: &mut impl Write, t: &Tally, iterated: bool) {
     line(output, b"done", t.done);
     for question in 1..14u8 {
         if question != 6 || iterated {
-            t.refused.report(output, question);
+            t.refused.line(output, question);
         }
     }
     line(output, b"deficient", t.deficient);

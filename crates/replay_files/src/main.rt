@@ -158,7 +158,7 @@ fn report(output: &mut impl Write, t: &Tally) {
     line(output, b"fits", t.fits);
     for (question, n) in (0u8..).zip(&t.refused.0) {
         if *n > 0 {
-            t.refused.report(output, question);
+            t.refused.line(output, question);
         }
     }
     line(output, b"different", t.different);

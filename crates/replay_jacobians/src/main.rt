@@ -99,7 +99,7 @@ fn run(input: &mut impl Read) -> Tally {
 fn report(output: &mut impl Write, t: &Tally) {
     line(output, b"blocks", t.blocks);
     line(output, b"pairs", t.pairs);
-    t.refused.report_all(output, &[2, 4, 5, 7, 8, 9, 10]);
+    t.refused.lines(output, &[2, 4, 5, 7, 8, 9, 10]);
     line(output, b"not numbers", t.not_numbers);
     line(output, b"different", t.different);
 }

@@ -330,7 +330,7 @@ fn report(output: &mut impl Write, t: &Tally) {
     line(output, b"added", t.added);
     line(output, b"there", t.there);
     line(output, b"mended", t.mended);
-    t.refused.report_all(output, &[1, 2, 4, 5, 7, 8, 9, 10, 14]);
+    t.refused.lines(output, &[1, 2, 4, 5, 7, 8, 9, 10, 14]);
     line(output, b"different", t.different);
 }
 

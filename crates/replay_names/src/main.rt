@@ -133,7 +133,7 @@ fn report(output: &mut impl Write, t: &Tally) {
     line(output, b"names", t.names);
     line(output, b"read", t.read);
     line(output, b"pier sensitive", t.sensitive);
-    t.refused.report_all(output, &[2, 7, 8, 9, 10]);
+    t.refused.lines(output, &[2, 7, 8, 9, 10]);
     replay::write(output, b"harmonics of 4, 5 and 6 bytes");
     for n in t.short {
         replay::number(output, n);
